@@ -39,6 +39,13 @@ impl Name {
     {
         Name { number }
     }
+
+    /// The number of the name. Numbers are small, so that tables by names can be dense.
+    pub fn number(self) -> u32
+        ensures { result ≡ self }
+    {
+        self.number
+    }
 }
 
 /// A name was not interned, since the table holds [`MAX_NAMES`] others.

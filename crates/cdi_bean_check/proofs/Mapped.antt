@@ -1,5 +1,5 @@
 -- Tests over the images of a list's items, one after the other.
-use Rattle.std.proofs.Common.{◌≡◌, ◌∙◌, ◌&&◌, ℕ, ◌+◌, ◌<◌, Bool, true, false, List, ◌∷◌, length, map, drop, get_or, sym, ap}
+use Rattle.std.proofs.Common.{◌≡◌, ◌∙◌, ◌&&◌, ℕ, ◌+◌, ◌<◌, Bool, true, false, List, length, map, drop, get_or, sym, ap}
 use Rattle.std.specs.List.{list_all}
 use Rattle.cdi_quals.proofs.Pairs.{next}
 

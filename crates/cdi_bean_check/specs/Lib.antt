@@ -3,6 +3,8 @@ pub mod BindingLists
 pub mod Inherited
 pub mod ManagedBeans
 pub mod MemberPlaces
+pub mod MixedNames
 pub mod NameSets
 pub mod Qualifiers
 pub mod Repeated
+pub mod SharedNames

@@ -1,6 +1,6 @@
 -- Classes that are beans, and what they specialize.
 use Rattle.std.specs.Prelude.{ℕ, Bool, true, false, not, ◌==◌, ◌&&◌, List, map, filter, Option, Some, None, is_some, IsTrue, option_and_then}
-use Rattle.std.specs.List.{find, list_any}
+use Rattle.std.specs.List.{find}
 use Rattle.cdi_base.specs.declared.scope.Scope.{Scope}
 use Rattle.cdi_base.specs.declared.scope.Scope.TheVariants as scopes
 use Rattle.cdi_deployment.specs.declared.deployment.Bean.{Bean}

@@ -1,5 +1,5 @@
 -- Where fields and members are declared: the name of a class, and their own in it.
-use Rattle.std.specs.Prelude.{ℕ, ◌≡◌, Bool, ◌&&◌, ◌↔◌, ◌⊎◌, nat_eq, List, Contains, IsTrue}
+use Rattle.std.specs.Prelude.{ℕ, Bool, ◌&&◌, ◌↔◌, ◌⊎◌, nat_eq, List, Contains, IsTrue}
 use Rattle.std.specs.HashSet.{HashSet, contains}
 use Rattle.std.specs.List.{list_any}
 

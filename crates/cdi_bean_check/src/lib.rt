@@ -9,7 +9,9 @@ pub mod bean_types;
 pub mod bindings;
 pub mod lost_types;
 pub mod member_places;
+mod mixed_names;
 pub mod repeated;
+mod shared_names;
 pub mod specialization;
 pub mod typed;
 

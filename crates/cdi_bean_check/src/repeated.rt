@@ -1,11 +1,16 @@
 //! Names that a superclass has already.
-ghost use Rattle.std.specs.Prelude.{◌≡◌, ◌==◌, ◌++◌, ◌||◌, map, filter, IfOk, OnOk};
+ghost use Rattle.std.specs.Prelude.{◌≡◌, ◌==◌, ◌++◌, ◌||◌, map, filter, nat_eq, Contains, IfOk, OnOk};
+ghost use Rattle.std.specs.HashSet.{contains};
 ghost use Rattle.std.specs.List.{list_any};
 ghost use Rattle.cdi_bean_check.specs.MemberPlaces.{MemberPlace, same_place, has_place as is_place_of, HasPlaces, AddsPlaces};
 ghost use Rattle.cdi_bean_check.specs.Repeated as spec;
+ghost use Rattle.cdi_bean_check.specs.MixedNames.{has_mixed, HasSeenAll};
+ghost use Rattle.cdi_bean_check.specs.SharedNames.{fields_in, HasShared};
 ghost use Rattle.cdi_deployment.specs.Member.{member_name as name_of};
 
 use crate::member_places::has_place;
+use crate::mixed_names::MixedNames;
+use crate::shared_names::{has_any_of, shared_names};
 use cdi_base::{Name, Seq};
 use cdi_deployment::{Class, Field, InjectedField, Member};
 use cdi_problems::{Element, Rule};
@@ -171,14 +176,56 @@ fn add_of_line(
     Ok(())
 }
 
-/// Adds the places of the names of a class that one of its superclasses has already.
+/// Whether one of these classes has a name.
+fn has_class(classes: &[&Class], name: Name) -> bool
+    ensures { result ≡ list_any (λ c. c.now.name == name) classes.now }
+{
+    classes.iter().any(|class| class.name == name)
+}
+
+/// The names by which classes can repeat something of their superclasses.
+#[derive(Drop)]
+struct Suspects {
+    /// Those of fields that are declared more than once.
+    fields: HashSet<Name>,
+    /// Those of members that aren't all alike.
+    members: MixedNames,
+}
+
+impl Suspects {
+    /// Those of some classes.
+    fn of(alloc: Global, classes: &[Class]) -> Result<Suspects, AllocError>
+        ensures fields { IfOk result (λ s. HasShared classes.now s.fields) }
+        ensures members { IfOk result (λ s. HasSeenAll classes.now s.members) }
+    {
+        Ok(Suspects {
+            fields: shared_names(alloc, classes)?,
+            members: MixedNames::of(alloc, classes)?,
+        })
+    }
+
+    /// Whether a class has such a name.
+    fn has_any_of(&self, class: &Class) -> bool
+        ensures { result ≡ (list_any (contains nat_eq self.now.fields) (fields_in class.now)
+            || has_mixed self.now.members class.now.members) }
+    {
+        has_any_of(&self.fields, class) || self.members.has_any_of(class.members.as_slice())
+    }
+}
+
+/// Adds the places of the names of a class that one of its superclasses has already. If it has none by which it can repeat something,
+/// and isn't above itself, there are none.
 fn add_of_class(
     alloc: Global,
     index: &ClassIndex<'_>,
     types: &TypeTable,
+    suspects: &Suspects,
     class: &Class,
     found: &mut HashSet<(Name, Name)>,
 ) -> Result<(), AllocError>
+    requires fields { HasShared index.now suspects.now.fields }
+    requires members { HasSeenAll index.now suspects.now.members }
+    requires listed { Contains index.now class.now }
     ensures { OnOk result
         (AddsPlaces (spec.RepeatsAt index.now types.now class.now) found.old found.new) }
 {
@@ -186,11 +233,15 @@ fn add_of_class(
         return Ok(());
     };
     let line = index.line(alloc, types, direct)?;
+    if !suspects.has_any_of(class) && !has_class(line.classes(), class.name) {
+        return Ok(());
+    }
     add_of_line(alloc, class, line.classes(), found)
 }
 
 /// Where classes repeat names of their superclasses: the name of a class, and that of a field or a member. This is the index of the
-/// classes. For each class it goes over all its superclasses.
+/// classes. If a class has the name of a field that is declared elsewhere, too, or of a member that isn't alike everywhere, then all its names
+/// are compared with those of all its superclasses.
 pub fn repeated_of_superclasses(
     alloc: Global,
     classes: &[Class],
@@ -200,9 +251,10 @@ pub fn repeated_of_superclasses(
     requires { index.now ≡ classes.now }
     ensures { IfOk result (HasPlaces (spec.IsRepeatedAt classes.now types.now)) }
 {
+    let suspects = Suspects::of(alloc, classes)?;
     let mut found = HashSet::new(alloc);
     for class in classes {
-        add_of_class(alloc, index, types, class, &mut found)?;
+        add_of_class(alloc, index, types, &suspects, class, &mut found)?;
     }
     Ok(found)
 }

@@ -1,10 +1,13 @@
+pub mod Above
 pub mod Growing
 pub mod Initializers
 pub mod Members
 pub mod Needy
 pub mod NeedyProducts
 pub mod Paths
+pub mod RowNumbers
 pub mod Rows
 pub mod Within
+pub mod FieldNeeds
 pub mod FieldSets
 pub mod MemberSets

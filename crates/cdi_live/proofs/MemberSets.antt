@@ -7,6 +7,7 @@ use Rattle.std.specs.List.{list_any}
 use Rattle.cdi_beans.specs.declared.bean.Bean.{Bean}
 use Rattle.cdi_beans.specs.declared.bean.BeanMember.{BeanMember}
 use Rattle.cdi_live.specs.Live.{has_member, is_live_member}
+use Rattle.cdi_live.specs.MemberSets.{is_it}
 use Rattle.cdi_name_check.specs.NameSets.{HasPairs, same_pair}
 
 abbrev pub is_among : List BeanMember → ℕ → ℕ → Bool
@@ -16,7 +17,7 @@ is_among members class name = list_any (λ m. (m.class == class) && (m.name == n
 pub any_next : {X : Type 0} (p : X → Bool) (xs : List X) (i : ℕ) (x : X) → i < length xs → x ≡ get_or xs i x → list_any p (take (i + 1) xs) ≡ (list_any p (take i xs) || (p x || false))
 any_next p xs i x lt is = ap (list_any p) (take_more xs i x lt ∙ ap (λ y. take i xs ++ y ∷ []) (sym is)) ∙ list_any-append p (take i xs) (x ∷ [])
 
-or_last : (here before found : Bool) → cond here true (before || found) ≡ (before || (found || (here || false)))
+or_last : (here before found : Bool) → ((before || found) || here) ≡ (before || (found || (here || false)))
 or_last true true found = refl
 or_last true false true = refl
 or_last true false false = refl
@@ -32,11 +33,11 @@ or_nothing false false = refl
 -- one member more
 pub one_member : {S : Type 0} (members : List BeanMember) (i : ℕ) (m : BeanMember) → i < length members → m ≡ get_or members i m → (before set larger : HashSet (ℕ × ℕ) S)
     → ((class name : ℕ) → contains same_pair set (class, name) ≡ (contains same_pair before (class, name) || is_among (take i members) class name))
-    → ((q : ℕ × ℕ) → contains same_pair larger q ≡ cond (same_pair (m.class, m.name) q) true (contains same_pair set q))
+    → ((class name : ℕ) → contains same_pair larger (class, name) ≡ (contains same_pair set (class, name) || is_it class name m))
     → (class name : ℕ) → contains same_pair larger (class, name) ≡ (contains same_pair before (class, name) || is_among (take (i + 1) members) class name)
 one_member members i m lt is before set larger so_far added class name =
-    added (class, name) ∙ ap (λ b. cond (same_pair (m.class, m.name) (class, name)) true b) (so_far class name)
-    ∙ or_last (same_pair (m.class, m.name) (class, name)) (contains same_pair before (class, name)) (is_among (take i members) class name)
+    added class name ∙ ap (λ b. b || is_it class name m) (so_far class name)
+    ∙ or_last (is_it class name m) (contains same_pair before (class, name)) (is_among (take i members) class name)
     ∙ ap (λ b. contains same_pair before (class, name) || b) (sym (any_next (λ m. (m.class == class) && (m.name == name)) members i m lt is))
 
 -- the members of one bean more

@@ -1,5 +1,5 @@
 -- The set of the producers whose products need themselves, with one bean more.
-use Rattle.std.proofs.Common.{◌≡◌, ◌∙◌, ℕ, ◌+◌, ◌<◌, ◌||◌, ◌&&◌, ◌==◌, Bool, true, false, nat_eq, cond, List, length, take, get_or, Option, Some, None, refl, sym, ap}
+use Rattle.std.proofs.Common.{◌≡◌, ◌∙◌, ℕ, ◌+◌, ◌<◌, ◌||◌, ◌&&◌, ◌==◌, Bool, true, false, nat_eq, cond, List, length, take, get_or, Some, None, refl, sym, ap}
 use Rattle.std.specs.HashSet.{HashSet, contains}
 use Rattle.cdi_beans.specs.declared.bean.Bean.{Bean}
 use Rattle.cdi_live.specs.Cycles.{is_name, flag, is_product_of, is_needy_product, has_needy_product}

@@ -24,6 +24,7 @@ use Rattle.cdi_live.specs.OwnPoints.{Inventory, AreManagedPoints, constructor_po
 use Rattle.cdi_live.specs.declared.node.Node.{Node}
 use Rattle.cdi_live.specs.declared.node.Node.TheVariants as nodes
 use Rattle.cdi_live.proofs.Members.{in_either, found_in, stands_in, image_in}
+use Rattle.cdi_live.proofs.RowNumbers.{same_as}
 use Rattle.cdi_live.proofs.Within.{at_within, listed_within, place_within}
 
 -- a node has one number, and a number one node
@@ -156,7 +157,8 @@ module _ (s : Inventory) (n : Counts) (beans : List Bean) (flags : List Bool) (e
             let over : length s.enabled.interceptors ≤ k = omega (arith, all_interceptors) in
             let long : length g ≤ x = omega (arith, rows.len) in
             let none : interceptor_points s k ≡ [] = ap (λ o. map field_point (fields_of_some (option_and_then (λ j. slice_get s.interceptors j.index) o))) (slice_get_past s.enabled.interceptors k over) in
-            IsRowOf.needing (filter_map (needed_at s) (interceptor_points s k)) NeedsThose.interceptor (get_or_past g x [] long ∙ sym (ap (λ ps. filter_map (number_of n) (filter_map (needed_at s) ps)) none))
+            let empty : targets_of g x ≡ filter_map (number_of n) (filter_map (needed_at s) (interceptor_points s k)) = get_or_past g x [] long ∙ sym (ap (λ ps. filter_map (number_of n) (filter_map (needed_at s) ps)) none) in
+            IsRowOf.needing (filter_map (needed_at s) (interceptor_points s k)) NeedsThose.interceptor (same_as (targets_of g x) _ empty)
 
         by : (b : Bool) → nat_lt x n.beans ≡ b → IsRowOf s n (cond b (nodes.Bean x) (nodes.Interceptor (x - n.beans))) (targets_of g x)
         by true h = let lt : x < n.beans = grind (arith, nat_tests) in rows.bean_rows x lt
@@ -173,8 +175,7 @@ module _ (s : Inventory) (n : Counts) (beans : List Bean) (flags : List Bool) (e
       where
         by : IsRowOf s n (node_of n a) (targets_of g a) → Needs s (node_of n a) (node_of n b)
         by (IsRowOf.needing those t is) =
-            let P : List ℕ → Type 0 = λ row. Contains row b in
-            let found = found_in (number_of n) those b (subst P is c) in
+            let found = found_in (number_of n) those b (is.sound b c) in
             let Q : Node → Type 0 = λ y. Contains those y in
             record { those = those; needs = t; listed = subst Q (sym (node_of_number n found.item b found.is)) found.there }
         by (IsRowOf.unknown none is) = let P : List ℕ → Type 0 = λ row. Contains row b in let empty : Contains [] b = subst P is c in absurd (omega (arith, empty.1))
@@ -200,8 +201,7 @@ module _ (s : Inventory) (n : Counts) (beans : List Bean) (flags : List Bool) (e
             let same : those ≡ need.those = one_list s x those need.those (subst N at_x t) need.needs in
             let C : List Node → Type 0 = λ ys. Contains ys y in
             let k = numbered x need.those y need.needs need.listed in
-            let R : List ℕ → Type 0 = λ row. Contains row k.number in
-            record { to = k.number; is = k.is; edge = subst R (sym is) (stands_in (number_of n) those y k.number (subst C (sym same) need.listed) k.is) }
+            record { to = k.number; is = k.is; edge = is.complete k.number (stands_in (number_of n) those y k.number (subst C (sym same) need.listed) k.is) }
         by (IsRowOf.unknown none is) = let N : Node → Type 0 = λ z. NeedsThose s z need.those in absurd (none need.those (subst N (sym at_x) need.needs))
 
     pub record Along (a : ℕ) (z : Node) : Type 0 where

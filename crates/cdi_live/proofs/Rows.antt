@@ -45,7 +45,7 @@ no_interceptors s n g h = record { len = omega (arith, h.len); bean_rows = h.row
 
 -- ---- the rows are those of a graph
 
-number_below : (n : Counts) (y : Node) (x : ℕ) → number_of n y ≡ Some x → x < n.beans + n.interceptors
+pub number_below : (n : Counts) (y : Node) (x : ℕ) → number_of n y ≡ Some x → x < n.beans + n.interceptors
 number_below n (Bean i) x e = by (nat_lt i n.beans) refl e
   where
     by : (b : Bool) → nat_lt i n.beans ≡ b → cond b (Some i) None ≡ Some x → x < n.beans + n.interceptors
@@ -61,8 +61,7 @@ row_below : (s : Inventory) (n : Counts) (x : Node) (row : List ℕ) → IsRowOf
 row_below s n x row (IsRowOf.needing those t is) = λ k d lt.
     let b = get_or row k d in
     let listed : Contains row b = (k, lt, get_or_default row k b d lt) in
-    let P : List ℕ → Type 0 = λ r. Contains r b in
-    let found = found_in (number_of n) those b (subst P is listed) in
+    let found = found_in (number_of n) those b (is.sound b listed) in
     number_below n found.item b found.is
 row_below s n x row (IsRowOf.unknown none is) = λ k d lt. let P : List ℕ → Type 0 = λ r. k < length r in let past : k < length {A = ℕ} [] = subst P is lt in absurd (omega arith)
 

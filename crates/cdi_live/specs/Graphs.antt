@@ -1,5 +1,5 @@
 -- The beans and interceptors as nodes of a graph: beans by their indices, and behind them interceptors by their places.
-use Rattle.std.specs.Prelude.{ℕ, ◌≡◌, ◌+◌, ◌-◌, ◌<◌, List, [], Option, Some, None, nat_lt, length, if◌then◌else◌}
+use Rattle.std.specs.Prelude.{ℕ, ◌≡◌, ◌+◌, ◌-◌, ◌<◌, List, [], Contains, Option, Some, None, nat_lt, length, if◌then◌else◌}
 use Rattle.std.specs.List.{filter_map}
 use Rattle.cdi_paths.specs.Graph.{targets_of}
 use Rattle.cdi_live.specs.Needs.{NeedsThose}
@@ -21,10 +21,15 @@ number_of n (nodes.Interceptor k) = if nat_lt k n.interceptors then Some (n.bean
 abbrev pub node_of : Counts → ℕ → Node
 node_of n x = if nat_lt x n.beans then nodes.Bean x else nodes.Interceptor (x - n.beans)
 
+-- two lists have the same items, in any order, and each as often as it likes
+pub record HaveSameItems (xs ys : List ℕ) : Type 0 where
+  pub sound : (x : ℕ) → Contains xs x → Contains ys x
+  pub complete : (x : ℕ) → Contains ys x → Contains xs x
+
 -- a row lists the numbers of what a node needs
 pub data IsRowOf (s : Inventory) (n : Counts) (x : Node) (row : List ℕ) : Type 0 where
-  needing : (those : List Node) → NeedsThose s x those → row ≡ filter_map (number_of n) those
-      → IsRowOf s n x row
+  needing : (those : List Node) → NeedsThose s x those
+      → HaveSameItems row (filter_map (number_of n) those) → IsRowOf s n x row
   unknown : ((those : List Node) → NeedsThose s x those → ⊥) → row ≡ [] → IsRowOf s n x row
 
 -- rows for the first beans

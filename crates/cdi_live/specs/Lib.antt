@@ -4,8 +4,10 @@ pub mod Needs
 pub mod OwnPoints
 pub mod Settings
 pub mod Enabled
+pub mod FieldNeeds
 pub mod Live
 pub mod LiveSets
+pub mod MemberSets
 pub mod Points
 pub mod PointProblems
 pub mod ResolvedPoints

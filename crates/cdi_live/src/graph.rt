@@ -1,10 +1,13 @@
 //! The graph of what needs what.
-ghost use Rattle.std.specs.Prelude.{◌≡◌, ◌+◌, ◌<◌, ◌^◌, All, length, IfOk, OnOk};
-ghost use Rattle.std.specs.List.{filter_map};
+ghost use Rattle.std.specs.Prelude.{◌≡◌, ◌+◌, ◌<◌, ◌^◌, ◌++◌, ◌∷◌, [], true, if◌then◌else◌, nat_eq, vec_len, slice_set, length, IfOk, OnOk};
+ghost use Rattle.std.specs.List.{filter_map, IsDistinct};
+ghost use Rattle.cdi_live.specs.Cycles.{flag};
+ghost use Rattle.cdi_live.specs.FieldNeeds.{AreFieldNeeds};
 ghost use Rattle.cdi_live.specs.Graphs as spec;
 ghost use Rattle.cdi_live.specs.Settings.{setting_of, counts_of};
 
 use crate::deployment_tables::DeploymentTables;
+use crate::field_needs::FieldNeeds;
 use crate::node::Node;
 use cdi_base::Seq;
 use std::alloc::{AllocError, Global};
@@ -14,6 +17,20 @@ use std::alloc::{AllocError, Global};
 pub(crate) struct Counts {
     pub(crate) beans: usize,
     pub(crate) interceptors: usize,
+}
+
+/// Adds a number to a row, unless its flag tells that it is listed there.
+fn add_number(number: usize, listed: &mut Vec<bool>, row: &mut Seq<usize>) -> Result<(), AllocError>
+    requires { number < vec_len listed.old }
+    ensures flags { OnOk result (listed.new.items ≡ slice_set listed.old.items number true) }
+    ensures row { OnOk result (row.new ≡ (if flag listed.old.items number then row.old
+        else row.old ++ number ∷ [])) }
+{
+    if !listed[number] {
+        listed[number] = true;
+        row.push(number)?;
+    }
+    Ok(())
 }
 
 impl Counts {
@@ -41,19 +58,21 @@ impl Counts {
         }
     }
 
-    /// The numbers of some nodes.
+    /// The numbers of some nodes, each once.
     fn numbers_of(self, alloc: Global, nodes: &[Node]) -> Result<Seq<usize>, AllocError>
         requires { self.beans + self.interceptors < 2 ^ 64 }
-        ensures { IfOk result (λ numbers. numbers ≡ filter_map (spec.number_of
-            (record { beans = self.beans; interceptors = self.interceptors })) nodes.now) }
+        ensures same { IfOk result (λ row. spec.HaveSameItems row (filter_map (spec.number_of
+            (record { beans = self.beans; interceptors = self.interceptors })) nodes.now)) }
+        ensures once { IfOk result (IsDistinct nat_eq) }
     {
-        let mut numbers = Seq::empty(alloc);
+        let mut listed = vec![in alloc; false; self.beans + self.interceptors]?;
+        let mut row = Seq::empty(alloc);
         for node in nodes {
             if let Some(number) = self.number_of(*node) {
-                numbers.push(number)?;
+                add_number(number, &mut listed, &mut row)?;
             }
         }
-        Ok(numbers)
+        Ok(row)
     }
 }
 
@@ -70,13 +89,19 @@ impl DeploymentTables<'_> {
     }
 
     /// The row of a bean: the numbers of what it needs, if it is enabled.
-    fn bean_row(&self, alloc: Global, index: usize) -> Result<Seq<usize>, AllocError>
+    fn bean_row(
+        &self,
+        alloc: Global,
+        fields: &FieldNeeds,
+        index: usize,
+    ) -> Result<Seq<usize>, AllocError>
+        requires { AreFieldNeeds (setting_of self.now) fields.now }
         ensures { IfOk result
             (spec.IsRowOf (setting_of self.now) (counts_of self.now) (Node.Bean index)) }
     {
         match self.beans.resolver.bean(index) {
             Some(bean) => {
-                let needs = self.bean_needs(alloc, bean)?;
+                let needs = self.bean_needs(alloc, fields, bean)?;
                 let row = self.counts().numbers_of(alloc, needs.as_slice())?;
                 Ok(row)
             }
@@ -95,13 +120,14 @@ impl DeploymentTables<'_> {
     }
 
     /// The rows of the beans.
-    fn bean_rows(&self, alloc: Global) -> Result<Seq<Seq<usize>>, AllocError>
+    fn bean_rows(&self, alloc: Global, fields: &FieldNeeds) -> Result<Seq<Seq<usize>>, AllocError>
+        requires { AreFieldNeeds (setting_of self.now) fields.now }
         ensures { IfOk result (spec.HasBeanRows (setting_of self.now) (counts_of self.now)
             (counts_of self.now).beans) }
     {
         let mut graph = Seq::empty(alloc);
         for index in 0..self.beans.resolver.beans().len() {
-            graph.push(self.bean_row(alloc, index)?)?;
+            graph.push(self.bean_row(alloc, fields, index)?)?;
         }
         Ok(graph)
     }
@@ -111,7 +137,8 @@ impl DeploymentTables<'_> {
         ensures { IfOk result (spec.HasRows (setting_of self.now) (counts_of self.now)
             (counts_of self.now).interceptors) }
     {
-        let mut graph = self.bean_rows(alloc)?;
+        let fields = FieldNeeds::build(alloc, self)?;
+        let mut graph = self.bean_rows(alloc, &fields)?;
         for place in 0..self.live.interceptors().len() {
             graph.push(self.interceptor_row(alloc, place)?)?;
         }

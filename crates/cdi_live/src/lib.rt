@@ -6,8 +6,10 @@
 pub mod cycle_rule;
 mod cycles;
 pub mod deployment_tables;
+mod field_needs;
 mod graph;
 pub mod live_tables;
+mod member_set;
 mod needed_at_points;
 mod needs;
 pub mod node;

@@ -92,21 +92,6 @@ pub(crate) fn add_fields(
     Ok(())
 }
 
-/// Adds what injected fields of a bean need, which it has from its class or from superclasses.
-pub(crate) fn add_injected(
-    tables: &DeploymentTables<'_>,
-    fields: &[ClassPart<'_, InjectedField>],
-    needs: &mut Seq<Node>,
-) -> Result<(), AllocError>
-    ensures { OnOk result (needs.new ≡ needs.old ++ filter_map
-        (spec.needed_at (setting_of tables.now)) (map (λ f. field_point f.1) fields.now)) }
-{
-    for field in fields {
-        add_needed(tables, field.part.ty, field.part.quals.as_slice(), needs)?;
-    }
-    Ok(())
-}
-
 /// Adds what the parameters of a member need, if it is an initializer.
 fn add_initializer(
     tables: &DeploymentTables<'_>,

@@ -4,13 +4,15 @@ ghost use Rattle.std.specs.List.{filter_map, flat_map, list_any};
 ghost use Rattle.std.specs.Option.{option_copied};
 ghost use Rattle.cdi_base.specs.Maps.{at};
 ghost use Rattle.cdi_plans.specs.Chains.{interceptors_of};
+ghost use Rattle.cdi_live.specs.FieldNeeds.{AreFieldNeeds, AreNamed};
 ghost use Rattle.cdi_live.specs.Points.{field_point};
 ghost use Rattle.cdi_live.specs.Needs as spec;
 ghost use Rattle.cdi_live.specs.OwnPoints as own;
 ghost use Rattle.cdi_live.specs.Settings.{setting_of};
 
 use crate::deployment_tables::DeploymentTables;
-use crate::needed_at_points::{add_fields, add_initializers, add_injected, add_params};
+use crate::field_needs::FieldNeeds;
+use crate::needed_at_points::{add_fields, add_initializers, add_params};
 use crate::node::Node;
 use cdi_base::{Name, Scope, Seq};
 use cdi_beans::{Bean, BeanKind, DisposerMethod};
@@ -94,14 +96,16 @@ impl DeploymentTables<'_> {
     fn add_of_line(
         &self,
         alloc: Global,
+        fields: &FieldNeeds,
         line: &ClassLine<'_>,
         needs: &mut Seq<Node>,
     ) -> Result<(), AllocError>
+        requires are { AreFieldNeeds (setting_of self.now) fields.now }
+        requires named { AreNamed (setting_of self.now) line.now }
         ensures { OnOk result (needs.new ≡ needs.old
             ++ filter_map (spec.needed_at (setting_of self.now)) (own.line_points line.now)) }
     {
-        let fields = line.injected_fields(alloc)?;
-        add_injected(self, fields.as_slice(), needs)?;
+        fields.add_of(line.classes(), needs)?;
         let initializers = line.members_of_kind(alloc, MemberKind::Initializer)?;
         add_initializers(self, initializers.as_slice(), needs)?;
         Ok(())
@@ -111,16 +115,18 @@ impl DeploymentTables<'_> {
     fn add_managed(
         &self,
         alloc: Global,
+        fields: &FieldNeeds,
         bean: &Bean,
         needs: &mut Seq<Node>,
     ) -> Result<(), AllocError>
+        requires { AreFieldNeeds (setting_of self.now) fields.now }
         ensures { OnOk result
             (spec.AddsManaged (setting_of self.now) bean.now needs.old needs.new) }
     {
         let classes = self.classes;
         add_params(self, constructor_points(classes.class(bean.class)), needs)?;
         let line = classes.line(alloc, &self.beans.declared.types, bean.class)?;
-        self.add_of_line(alloc, &line, needs)?;
+        self.add_of_line(alloc, fields, &line, needs)?;
         Ok(())
     }
 
@@ -195,14 +201,20 @@ impl DeploymentTables<'_> {
     }
 
     /// What a managed bean needs.
-    fn managed_needs(&self, alloc: Global, bean: &Bean) -> Result<Seq<Node>, AllocError>
-        requires { bean.now.kind ≡ BeanKind.Managed }
+    fn managed_needs(
+        &self,
+        alloc: Global,
+        fields: &FieldNeeds,
+        bean: &Bean,
+    ) -> Result<Seq<Node>, AllocError>
+        requires are { AreFieldNeeds (setting_of self.now) fields.now }
+        requires managed { bean.now.kind ≡ BeanKind.Managed }
         ensures { IfOk result (λ needs. (i : ℕ)
             → at self.now.live.now.beans i ≡ Some bean.now
             → spec.NeedsThose (setting_of self.now) (Node.Bean i) needs) }
     {
         let mut needs = Seq::empty(alloc);
-        self.add_managed(alloc, bean, &mut needs)?;
+        self.add_managed(alloc, fields, bean, &mut needs)?;
         self.add_interceptors(alloc, bean, &mut needs)?;
         Ok(needs)
     }
@@ -223,14 +235,20 @@ impl DeploymentTables<'_> {
     }
 
     /// What an enabled bean needs.
-    pub(crate) fn bean_needs(&self, alloc: Global, bean: &Bean) -> Result<Seq<Node>, AllocError>
+    pub(crate) fn bean_needs(
+        &self,
+        alloc: Global,
+        fields: &FieldNeeds,
+        bean: &Bean,
+    ) -> Result<Seq<Node>, AllocError>
+        requires { AreFieldNeeds (setting_of self.now) fields.now }
         ensures { IfOk result (λ needs. (i : ℕ)
             → at self.now.live.now.beans i ≡ Some bean.now
             → spec.NeedsThose (setting_of self.now) (Node.Bean i) needs) }
     {
         match product_name(bean.kind) {
             Some(name) => self.product_needs(alloc, bean, name),
-            None => self.managed_needs(alloc, bean),
+            None => self.managed_needs(alloc, fields, bean),
         }
     }
 

@@ -4,13 +4,16 @@ ghost use Rattle.std.specs.HashSet.{contains};
 ghost use Rattle.std.specs.List.{Any};
 ghost use Rattle.cdi_live.specs.Live as spec;
 ghost use Rattle.cdi_live.specs.LiveSets.{HasThose, AreLive};
+ghost use Rattle.cdi_live.specs.MemberSets.{HasLast};
 ghost use Rattle.cdi_name_check.specs.NameSets.{HasNames, HasPairs, same_pair};
+ghost use Rattle.cdi_types.specs.NameSet.{has as has_name};
 
+use crate::member_set::{LastClasses, add_member};
 use cdi_base::Name;
 use cdi_beans::EnabledInterceptor;
 use cdi_deployment::Class;
 use cdi_resolve::EnabledBean;
-use cdi_types::TypeTable;
+use cdi_types::{NameSet, TypeTable};
 use std::alloc::{AllocError, Global};
 use std::collections::HashSet;
 
@@ -41,12 +44,18 @@ fn classes_of(alloc: Global, enabled: &[EnabledBean<'_>]) -> Result<HashSet<Name
 }
 
 /// Adds the members of a bean.
-fn add_members(bean: &EnabledBean<'_>, set: &mut HashSet<(Name, Name)>) -> Result<(), AllocError>
-    ensures { OnOk result ((class name : ℕ) → contains same_pair set.new (class, name)
+fn add_members(
+    bean: &EnabledBean<'_>,
+    set: &mut HashSet<(Name, Name)>,
+    last: &mut LastClasses,
+) -> Result<(), AllocError>
+    requires { HasLast set.old last.old }
+    ensures set { OnOk result ((class name : ℕ) → contains same_pair set.new (class, name)
         ≡ (contains same_pair set.old (class, name) || spec.has_member class name bean.now)) }
+    ensures last { OnOk result (HasLast set.new last.new) }
 {
     for member in bean.members() {
-        set.insert((member.class, member.name))?;
+        add_member(member, set, last)?;
     }
     Ok(())
 }
@@ -59,24 +68,29 @@ fn members_of(
     ensures { IfOk result (HasPairs (spec.is_live_member enabled.now)) }
 {
     let mut set = HashSet::new(alloc);
+    let mut last = LastClasses::none(alloc);
     for bean in enabled {
-        add_members(bean, &mut set)?;
+        add_members(bean, &mut set, &mut last)?;
     }
     Ok(set)
 }
 
-/// Whether a managed bean is of a class or of one below it.
-fn is_below(types: &TypeTable, bean: &EnabledBean<'_>, class: Name) -> bool
-    ensures { IsTrue result ↔ spec.IsBeanBelow types.now class bean.now }
+/// The classes of managed beans, and all types above them.
+fn types_of_beans(
+    alloc: Global,
+    types: &TypeTable,
+    enabled: &[EnabledBean<'_>],
+) -> Result<NameSet, AllocError>
+    ensures { IfOk result (λ names. (class : ℕ) → IsTrue (has_name names class)
+        ↔ Any (spec.IsBeanBelow types.now class) enabled.now) }
 {
-    bean.is_managed() && types.is_subtype(bean.class(), class)
-}
-
-/// Whether one of some beans is a managed one of a class or of one below it.
-fn has_below(types: &TypeTable, enabled: &[EnabledBean<'_>], class: Name) -> bool
-    ensures { IsTrue result ↔ Any (spec.IsBeanBelow types.now class) enabled.now }
-{
-    enabled.iter().any(|bean| is_below(types, bean, class))
+    let mut names = NameSet::new(alloc);
+    for bean in enabled {
+        if bean.is_managed() {
+            types.add_types_of(alloc, bean.class(), &mut names)?;
+        }
+    }
+    Ok(names)
 }
 
 /// Those of some classes that are of managed beans, or above these.
@@ -88,9 +102,10 @@ fn classes_with_fields(
 ) -> Result<HashSet<Name>, AllocError>
     ensures { IfOk result (HasThose (spec.HasFieldsOf classes.now types.now enabled.now)) }
 {
+    let above = types_of_beans(alloc, types, enabled)?;
     let mut set = HashSet::new(alloc);
     for class in classes {
-        if has_below(types, enabled, class.name) {
+        if above.contains(class.name) {
             set.insert(class.name)?;
         }
     }

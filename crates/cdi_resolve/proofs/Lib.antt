@@ -1,7 +1,11 @@
 pub mod Counting
+pub mod Digesting
 pub mod Eligible
 pub mod Enabled
 pub mod Filtering
+pub mod Flags
+pub mod Keys
+pub mod Looking
 pub mod Narrowing
 pub mod Pushing
 pub mod Rows

@@ -3,11 +3,10 @@ use Rattle.std.proofs.Common.{◌≡◌, ◌∙◌, ℕ, ◌&&◌, Bool, true, f
 use Rattle.std.specs.Prelude.{ℤ, slice_get, option_map, option_and_then}
 use Rattle.std.specs.List.{cons_option}
 use Rattle.cdi_beans.specs.declared.bean.Bean.{Bean}
-use Rattle.cdi_quals.specs.declared.qualifier.Qualifier.{Qualifier}
-use Rattle.cdi_resolve.specs.Filters.{required_of, has_type, has_required, has_priority, having_type}
-use Rattle.cdi_resolve.specs.Narrowing.{passes, if_passing, left_in, left_of, eligible_of}
-use Rattle.cdi_resolve.specs.Resolution.{sole, eligible, alternatives, all_have_priority, greatest_priority, with_greatest, highest, just_one, by_priority, among_alternatives, among_eligible}
-use Rattle.cdi_resolve.specs.TypeIndex.{listed}
+use Rattle.cdi_resolve.specs.Filters.{required_of, has_priority}
+use Rattle.cdi_resolve.specs.Narrowing.{has_asked, passes, if_passing, left_in, left_of, eligible_of}
+use Rattle.cdi_resolve.specs.Resolution.{sole, alternatives, all_have_priority, greatest_priority, with_greatest, highest, just_one, by_priority, among_alternatives, among_eligible}
+use Rattle.cdi_resolve.specs.BeanRows.{listed}
 use Rattle.cdi_resolve.specs.declared.filter.Left.{Left}
 use Rattle.cdi_resolve.specs.declared.filter.Left.TheVariants as lefts
 use Rattle.cdi_resolve.specs.declared.question.Question.{Question}
@@ -19,15 +18,15 @@ use Rattle.cdi_resolve.proofs.Filtering.{filter_both}
 module _ (q : Question) where
   module _ (left : Left) where
     abbrev passing : ℕ × Bean → Bool
-    passing b = passes (required_of q.required) left b.1
+    passing b = passes q.ty (required_of q.required) left b.1
 
     one_left_of : (i : ℕ) (xs ys : List (ℕ × Bean)) → xs ≡ ys → (t : Bool) (b : Bean) → cons_option (option_map (λ (x : Bean). (i, x)) (cond t (Some b) None)) xs ≡ cond t ((i, b) ∷ ys) ys
     one_left_of i xs ys e true b = ap (λ zs. (i, b) ∷ zs) e
     one_left_of i xs ys e false b = e
 
-    next_left_of : (i : ℕ) (row : List ℕ) → left_in q left row ≡ filter passing (listed q.beans.now row) → (o : Option Bean) → cons_option (option_map (λ (x : Bean). (i, x)) (option_and_then (if_passing (required_of q.required) left) o)) (left_in q left row) ≡ filter passing (cons_option (option_map (λ (x : Bean). (i, x)) o) (listed q.beans.now row))
+    next_left_of : (i : ℕ) (row : List ℕ) → left_in q left row ≡ filter passing (listed q.beans.now row) → (o : Option Bean) → cons_option (option_map (λ (x : Bean). (i, x)) (option_and_then (if_passing q.ty (required_of q.required) left) o)) (left_in q left row) ≡ filter passing (cons_option (option_map (λ (x : Bean). (i, x)) o) (listed q.beans.now row))
     next_left_of i row e None = e
-    next_left_of i row e (Some b) = one_left_of i (left_in q left row) (filter passing (listed q.beans.now row)) e (passes (required_of q.required) left b) b
+    next_left_of i row e (Some b) = one_left_of i (left_in q left row) (filter passing (listed q.beans.now row)) e (passes q.ty (required_of q.required) left b) b
 
     -- those that are left, found in one look and in two
     pub left_filtered : (row : List ℕ) → left_in q left row ≡ filter passing (listed q.beans.now row)
@@ -35,7 +34,7 @@ module _ (q : Question) where
     left_filtered (i ∷ row) = next_left_of i row (left_filtered row) (slice_get q.beans.now i)
 
   abbrev having : ℕ × Bean → Bool
-  having b = has_required (required_of q.required) b.1
+  having b = has_asked q.ty (required_of q.required) b.1
 
   pub eligible_left : left_of q lefts.Eligible ≡ eligible_of q
   eligible_left = left_filtered lefts.Eligible q.row.now
@@ -47,10 +46,6 @@ module _ (q : Question) where
   priority_left priority =
       left_filtered (lefts.WithPriority priority) q.row.now
       ∙ sym (ap (filter (λ b. has_priority priority b.1)) (filter_both having (λ b. b.1.alternative) (listed q.beans.now q.row.now)) ∙ filter_both (λ b. having b && b.1.alternative) (λ b. has_priority priority b.1) (listed q.beans.now q.row.now))
-
--- the beans of a type that have the required qualifiers
-pub eligible_having : (type : ℕ) (qualifiers : List Qualifier) (beans : List (ℕ × Bean)) → filter (λ b. has_required qualifiers b.1) (having_type type beans) ≡ eligible type qualifiers beans
-eligible_having type qualifiers beans = filter_both (λ b. has_type type b.1) (λ b. has_required qualifiers b.1) beans
 
 -- what is told at once, and what has to be narrowed down
 pub told_eligible : (beans : List (ℕ × Bean)) → ((sole beans ≡ Many → ⊥)) → sole beans ≡ among_eligible beans

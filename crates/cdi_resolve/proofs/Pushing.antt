@@ -1,5 +1,5 @@
 -- A list that is made by pushes.
-use Rattle.std.proofs.Common.{◌≡◌, ◌∙◌, ℕ, List, [], ◌∷◌, ◌++◌, fold, refl, append_assoc, append-nil, sym}
+use Rattle.std.proofs.Common.{◌≡◌, ◌∙◌, ℕ, List, [], ◌∷◌, ◌++◌, fold, append_assoc, append-nil, sym}
 use Rattle.cdi_beans.specs.declared.bean.Bean.{Bean}
 
 abbrev pub pushed : List (ℕ × Bean) → ℕ × Bean → List (ℕ × Bean)

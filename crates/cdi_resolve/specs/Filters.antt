@@ -54,9 +54,6 @@ pub record Candidates : Type 0 where
 abbrev pub enabled_of : Candidates → List (ℕ × Bean)
 enabled_of c = enabled_beans c.beans c.flags
 
-abbrev pub having_type : ℕ → List (ℕ × Bean) → List (ℕ × Bean)
-having_type type beans = filter (λ b. has_type type b.1) beans
-
 abbrev pub is_priority : ℤ → Option ℤ → Bool
 is_priority priority None = false
 is_priority priority (Some own) = int_eq own priority

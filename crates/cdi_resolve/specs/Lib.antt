@@ -1,6 +1,10 @@
+pub mod BeanIndex
+pub mod BeanKeys
+pub mod BeanRows
 pub mod BeanTables
+pub mod BindingFlags
+pub mod Digests
 pub mod Filters
 pub mod Narrowing
 pub mod Resolution
-pub mod TypeIndex
 pub mod WrittenUses

@@ -2,7 +2,12 @@
 //! deployment and its bean list give: which beans are enabled, what resolves to what, and the chains of interceptors.
 #![tactic(auto)]
 
+mod bean_index;
+mod bean_key;
+mod bean_rows;
 pub mod bean_tables;
+mod binding_flags;
+mod digest;
 pub mod enabled_bean;
 mod filter;
 pub mod laws;
@@ -11,7 +16,6 @@ mod required;
 pub mod resolution;
 pub mod resolver;
 pub mod resolving;
-mod type_index;
 mod written_uses;
 
 pub use bean_tables::BeanTables;

@@ -7,16 +7,19 @@ ghost use Rattle.cdi_resolve.specs.Resolution as spec;
 use crate::filter::{Left, passes};
 use crate::required::Required;
 use crate::resolution::Resolution;
+use cdi_base::Name;
 use cdi_beans::Bean;
 use cdi_quals::Qualifier;
 
-/// What is asked for, among the enabled beans that have the type.
+/// What is asked for, among enabled beans.
 #[derive(Clone, Copy)]
 pub(crate) struct Question<'a> {
     /// All beans.
     pub beans: &'a [Bean],
-    /// The enabled ones that have the type, by their indices.
+    /// The enabled ones that are looked at, by their indices.
     pub row: &'a [usize],
+    /// The type, where it isn't known that all of these have it.
+    pub ty: Option<Name>,
     /// The required qualifiers; none stands for `Default`.
     pub required: Required<'a>,
     /// The qualifier `Default`.
@@ -42,7 +45,7 @@ impl Question<'_> {
         ensures { option_copied result ≡ narrowing.left_at self.now left index }
     {
         let bean = self.beans.get(index)?;
-        if passes(bean, &self.required, self.default, left) {
+        if passes(bean, self.ty, &self.required, self.default, left) {
             return Some(bean);
         }
         None

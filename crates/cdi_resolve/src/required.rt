@@ -22,7 +22,7 @@ pub(crate) enum Required<'a> {
 }
 
 /// The value that a use gives to a member, if it gives one.
-fn value_of(given: &[MemberValue], name: Name) -> Option<&Value>
+pub(crate) fn value_of(given: &[MemberValue], name: Name) -> Option<&Value>
     ensures { unwrap_or (option_copied result) Value.Null ≡ quals.value_of given.now name }
 {
     for member in given {

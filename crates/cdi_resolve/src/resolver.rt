@@ -7,10 +7,11 @@ ghost use Rattle.cdi_resolve.specs.Filters.{required_of, enabled_of};
 ghost use Rattle.cdi_resolve.specs.Narrowing.{eligible_of as eligible_in};
 ghost use Rattle.cdi_resolve.specs.Resolution as spec;
 
+use crate::bean_index::{BeanIndex, asked_type};
+use crate::bean_rows::has_flag;
 use crate::question::Question;
 use crate::required::Required;
 use crate::resolution::Resolution;
-use crate::type_index::{TypeIndex, has_flag};
 use crate::written_uses::WrittenUses;
 use cdi_base::{BuiltIn, Name, Seq, Use};
 use cdi_beans::Bean;
@@ -19,11 +20,12 @@ use std::alloc::{AllocError, Global};
 use std::marker::Model;
 
 /// Typesafe resolution among the enabled ones of a list of beans (Jakarta CDI 4.0, *Typesafe resolution*). Contracts see the
-/// beans and the flags that tell which of them are enabled. A question looks only at enabled beans that have the type.
+/// beans and the flags that tell which of them are enabled. A question looks only at enabled beans
+/// that have the type, or at those that have one of the required qualifiers, where these are fewer.
 pub struct Resolver {
     beans: Seq<Bean>,
     enabled: Seq<bool>,
-    index: TypeIndex,
+    index: BeanIndex,
     default: Qualifier,
 }
 
@@ -42,7 +44,7 @@ impl Drop for Resolver {
 impl Model for Resolver {
     ghost use Rattle.std.specs.Prelude.{◌≡◌};
     ghost use Rattle.cdi_resolve.specs.Filters as filters;
-    ghost use Rattle.cdi_resolve.specs.TypeIndex.{IsIndexOf};
+    ghost use Rattle.cdi_resolve.specs.BeanIndex.{IsIndexOf};
 
     ghost Value = { filters.Candidates };
 
@@ -57,7 +59,7 @@ impl Resolver {
     pub fn new(alloc: Global, beans: Seq<Bean>, enabled: Seq<bool>) -> Result<Resolver, AllocError>
         ensures { IfOk result (λ r. r ≡ record { beans = beans; flags = enabled }) }
     {
-        let index = TypeIndex::build(alloc, beans.as_slice(), enabled.as_slice())?;
+        let index = BeanIndex::build(alloc, beans.as_slice(), enabled.as_slice())?;
         Ok(Resolver {
             beans,
             enabled,
@@ -98,9 +100,11 @@ impl Resolver {
         ensures { eligible_in result
             ≡ spec.eligible ty (required_of required.now) (enabled_of self.now) }
     {
+        let key = self.index.key_of(ty, required, &self.default);
         Question {
             beans: self.beans.as_slice(),
-            row: self.index.row(ty),
+            row: self.index.row(&key),
+            ty: asked_type(ty, &key),
             required: *required,
             default: &self.default,
         }

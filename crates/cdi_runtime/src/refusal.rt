@@ -5,7 +5,7 @@ ghost use Rattle.std.specs.Option.{option_copied};
 ghost use Rattle.cdi_contexts.specs.Refusals.{first_that_holds};
 ghost use Rattle.cdi_machine.specs.Container as machine;
 ghost use Rattle.cdi_run_tables.specs.Machine.{machine_tables};
-ghost use Rattle.cdi_steps.specs.Known.{IsResolved, JobTellsRightly, KnownJob, TellsRightly};
+ghost use Rattle.cdi_steps.specs.Known.{IsResolved, JobIsResolved, JobTellsRightly, KnownJob, TellsRightly};
 ghost use Rattle.cdi_steps.specs.Words.{command_of};
 ghost use Rattle.cdi_machine.specs.Told.{method_told};
 ghost use Rattle.cdi_runtime.specs.Standing.{IsServable};
@@ -158,6 +158,8 @@ impl<D: Driver> Runtime<D> {
             (machine.idle_state self.old.world halted) (command_of job.old) }
         ensures command { command_of job.new ≡ command_of job.old }
         ensures rightly { JobTellsRightly (machine_tables self.old.tables) job.new }
+        ensures resolved { result ≡ None
+            → JobIsResolved (machine_tables self.old.tables) job.new }
         ensures known { result ≡ None
             → KnownJob (machine_tables self.old.tables) self.old.world job.new }
         ensures kept { self.new ≡ self.old }

@@ -1,5 +1,5 @@
 -- The parts of an own instance by its tables, and by the definition.
-use Rattle.std.proofs.Common.{◌≡◌, ◌∙◌, ◌&&◌, ℕ, Bool, true, false, List, [], ◌∷◌, ◌++◌, Option, Some, None, option_map, option_to_list, refl, sym, ap, subst}
+use Rattle.std.proofs.Common.{◌≡◌, ◌∙◌, ◌&&◌, ℕ, Bool, true, false, List, [], ◌∷◌, ◌++◌, Option, Some, None, option_map, option_to_list, refl, sym, ap}
 use Rattle.std.proofs.Math.Path.{fun_ext}
 use Rattle.std.specs.Prelude.{◌↔◌, IsTrue}
 use Rattle.std.specs.List.{filter_map, cons_option}
@@ -36,7 +36,7 @@ module _ (f g : ℕ → Bool) (i j : ℕ → Option InjectedField) (m n : ℕ �
       ap (λ (x : ℕ → Bool). parts x i m) fields ∙ ap (λ (x : ℕ → Option InjectedField). parts g x m) same_injected ∙ ap (λ (x : ℕ → ℕ → Bool). parts g j x) owns
 
 -- for each site of a list
-Each : (Site → Type 0) → List Site → Type 0
+unfoldable pub Each : (Site → Type 0) → List Site → Type 0
 Each P [] = Unit {0}
 Each P (s ∷ ss) = P s × Each P ss
 
@@ -61,7 +61,7 @@ module _ (P Q : Site → Type 0) where
   lists (s ∷ ss) (f ∷ found) same (ListsThose.keep p rest) = ListsThose.keep (same.0.0 p) (lists ss found same.1 rest)
   lists (s ∷ ss) (f ∷ found) same (ListsThose.skip out rest) = ListsThose.skip (λ q. out (same.0.1 q)) (lists ss (f ∷ found) same.1 rest)
 
-  adds_same : (ss : List Site) (old new : List Place) → Each (λ s. P s ↔ Q s) ss → AddsPlacesOf P ss old new → AddsPlacesOf Q ss old new
+  pub adds_same : (ss : List Site) (old new : List Place) → Each (λ s. P s ↔ Q s) ss → AddsPlacesOf P ss old new → AddsPlacesOf Q ss old new
   adds_same ss old new same a = record { those = a.those; listed = lists ss a.those same a.listed; are = a.are }
 
 first_true : (a b : Bool) → (a && b) ≡ true → a ≡ true

@@ -1,4 +1,5 @@
 pub mod Application
+pub mod AskedParts
 pub mod BodyOutsideShape
 pub mod OwnFindings
 pub mod OwnParts

@@ -10,7 +10,6 @@ use Rattle.cdi_beans.specs.declared.bean.BeanMember.{BeanMember}
 use Rattle.cdi_bodies.specs.declared.shape.Lookup.{Lookup}
 use Rattle.cdi_bodies.specs.declared.shape.MethodCall.{MethodCall}
 use Rattle.cdi_deployment.specs.declared.deployment.Class.{Class}
-use Rattle.cdi_deployment.specs.declared.deployment.InjectedField.{InjectedField}
 use Rattle.cdi_deployment.specs.declared.deployment.Point.{Point}
 use Rattle.cdi_beans.specs.Kinds.{is_managed}
 use Rattle.cdi_types.specs.Line.{class_named}

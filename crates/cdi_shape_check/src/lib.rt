@@ -2,6 +2,7 @@
 //! exception.
 #![tactic(auto)]
 
+mod asked;
 mod events;
 mod findings;
 mod injected;

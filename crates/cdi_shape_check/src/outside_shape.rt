@@ -10,6 +10,7 @@ ghost use Rattle.cdi_shape_check.specs.BodyOutsideShape as spec;
 ghost use Rattle.cdi_shape_check.specs.OwnFindings as own_findings;
 ghost use Rattle.cdi_shape_check.specs.OwnTables.{parts_in};
 
+use crate::asked::AskedParts;
 use crate::findings::{findings_of, is_outside};
 use crate::own::OwnTables;
 use crate::references::misses_params;
@@ -104,14 +105,16 @@ fn add_of_class(
     if sites.is_empty() {
         return Ok(());
     }
-    let own = OwnTables::of_class(alloc, tables.application, class)?;
-    let findings = findings_of(alloc, tables, &own, sites.as_slice())?;
+    let sites = sites.as_slice();
+    let asked = AskedParts::of_sites(tables, sites);
+    let own = OwnTables::of_class(alloc, tables.application, class, asked)?;
+    let findings = findings_of(alloc, tables, &own, sites)?;
     let rule = OutsideShape {
         tables,
         own: &own,
         findings: &findings,
     };
-    add_places(&rule, sites.as_slice(), found)
+    add_places(&rule, sites, found)
 }
 
 /// Adds the places in an interceptor.
@@ -176,7 +179,7 @@ fn add_of_interceptors(
 /// a method to call on the own instance, that the class that declares the body and its superclasses lack; a reference that isn't
 /// there; a call that the one bean behind its reference has no method for, or a value that it doesn't hold; an event, a lookup or an
 /// exception with an unknown name. What doesn't resolve to one bean isn't looked at further. It goes over each class that has
-/// bodies, and all its superclasses.
+/// bodies, and over the fields, the injected fields or the methods of the class and all its superclasses if a live body asks for them.
 pub fn bodies_outside_shape(
     alloc: Global,
     tables: &BodyTables<'_>,

@@ -1,10 +1,11 @@
 //! What the instance has that a body runs on.
-ghost use Rattle.std.specs.Prelude.{◌≡◌, ◌||◌, ℕ, nat_eq, map, IfOk, OnOk};
+ghost use Rattle.std.specs.Prelude.{◌≡◌, ◌||◌, ℕ, nat_eq, cond, map, [], IfOk, OnOk};
 ghost use Rattle.std.specs.HashSet.{contains};
 ghost use Rattle.std.specs.List.{list_any, flat_map};
 ghost use Rattle.cdi_name_check.specs.NameSets.{HasNames, HasPairs, same_pair};
 ghost use Rattle.cdi_shape_check.specs.OwnParts as spec;
 
+use crate::asked::AskedParts;
 use crate::injected::{InjectedFields, add_fields as add_injected};
 use cdi_base::{Name, Seq};
 use cdi_deployment::{Class, Field, InjectedField, Interceptor, Member};
@@ -12,8 +13,8 @@ use cdi_live::DeploymentTables;
 use std::alloc::{AllocError, Global};
 use std::collections::HashSet;
 
-/// What the instance has that a body runs on, as the class that declares the body and its superclasses declare it; that of an
-/// interceptor's method, as the interceptor does.
+/// What the instance has that a body runs on: what is asked for of what the class that declares the body and its superclasses declare, or
+/// all that the interceptor declares whose method it is.
 #[derive(Drop)]
 pub(crate) struct OwnTables<'a> {
     /// The fields that hold values.
@@ -93,35 +94,48 @@ fn injected_of<'a>(alloc: Global, line: &[&'a Class]) -> Result<InjectedFields<'
     InjectedFields::build(alloc, fields)
 }
 
+/// The classes of a line, if a part of what they declare is asked for, else none.
+fn asked_line<'a, 'b>(is_asked: bool, line: &'b [&'a Class]) -> &'b [&'a Class]
+    ensures { result.now ≡ cond is_asked line.now [] }
+{
+    if is_asked { line } else { &[] }
+}
+
 impl<'a> OwnTables<'a> {
     ghost use Rattle.std.specs.Option.{option_copied};
     ghost use Rattle.cdi_shape_check.specs.Application.{application_of};
+    ghost use Rattle.cdi_shape_check.specs.AskedParts.{asked_parts, AreAskedParts};
     ghost use Rattle.cdi_shape_check.specs.OwnTables.{parts_in};
 
-    /// What these classes declare.
-    fn of_line(alloc: Global, line: &[&'a Class]) -> Result<OwnTables<'a>, AllocError>
+    /// What is asked for of what these classes declare.
+    fn of_line(
+        alloc: Global,
+        line: &[&'a Class],
+        asked: AskedParts,
+    ) -> Result<OwnTables<'a>, AllocError>
         ensures { IfOk result (λ own.
-            parts_in own ≡ spec.parts_of_line (map (λ c. c.now) line.now)) }
+            parts_in own ≡ asked_parts asked (spec.parts_of_line (map (λ c. c.now) line.now))) }
     {
         Ok(OwnTables {
-            fields: field_names(alloc, line)?,
-            injected: injected_of(alloc, line)?,
-            methods: methods_of(alloc, line)?,
+            fields: field_names(alloc, asked_line(asked.fields, line))?,
+            injected: injected_of(alloc, asked_line(asked.injected, line))?,
+            methods: methods_of(alloc, asked_line(asked.methods, line))?,
         })
     }
 
-    /// What a class and its superclasses declare.
+    /// What is asked for of what a class and its superclasses declare.
     pub(crate) fn of_class(
         alloc: Global,
         application: &DeploymentTables<'a>,
         class: &Class,
+        asked: AskedParts,
     ) -> Result<OwnTables<'a>, AllocError>
-        ensures { IfOk result (λ own. spec.AreClassParts
-            (application_of application.now).deployment class.now (parts_in own)) }
+        ensures { IfOk result (λ own. AreAskedParts
+            (application_of application.now).deployment class.now asked (parts_in own)) }
     {
         let types = &application.beans.declared.types;
         let line = application.classes.line(alloc, types, class.name)?;
-        OwnTables::of_line(alloc, line.classes())
+        OwnTables::of_line(alloc, line.classes(), asked)
     }
 
     /// What an interceptor declares.

@@ -20,16 +20,16 @@ ghost use Rattle.cdi_frames.specs.Stacks.{KnownStack, KnownTurn};
 ghost use Rattle.cdi_run_tables.specs.Machine.{machine_tables};
 ghost use Rattle.cdi_machine.specs.Tables.{Tables};
 ghost use Rattle.cdi_machine.specs.World.{World};
-ghost use Rattle.cdi_steps.specs.Known.{JobTellsRightly, KnownJob, TellsRightly};
+ghost use Rattle.cdi_steps.specs.Known.{JobTellsRightly, KnownJob};
 
 use crate::entries::{push_entries, push_name, push_value};
 use crate::heard::{beans_of, hear};
 use cdi_base::{Names, Refusal, Seq, Text, Value};
 use cdi_frames::run::{run, turn};
 use cdi_frames::stack::{Stack, Turn};
-use cdi_host::{Contents, Resolution, Tables as HostTables};
+use cdi_host::Contents;
 use cdi_machine::{Driver, Failure};
-use cdi_runtime::{Runtime, ServedTables};
+use cdi_runtime::Runtime;
 use cdi_steps::task::Task;
 use cdi_steps::{BeanPurpose, BeanUse, Completion, Event, Given, Job, Outcome};
 use cdi_tests_player::Ledger;
@@ -154,36 +154,21 @@ fn job_of(alloc: Global, names: &Names, words: &[&str]) -> Result<Option<Job>, A
     }
 }
 
-/// What the use of a bean resolves to, if it is a call whose names are known.
-fn resolution_of(tables: &ServedTables, used: &BeanUse) -> Option<Resolution>
-    ensures { TellsRightly (machine_tables tables.now)
-        (record used.now { resolved = result }) }
-{
-    let qualifiers = used.qualifiers.as_slice();
-    if !tables.run_tables().is_known(used.bean_type, qualifiers) {
-        return None;
-    }
-    match used.purpose {
-        BeanPurpose::Call { .. } => Some(tables.resolve(used.bean_type, qualifiers)),
-        BeanPurpose::Read => None,
-    }
-}
-
-/// Tells what a job resolves to, if it is a call whose names are known, and nothing otherwise.
-fn tell_resolution(tables: &ServedTables, job: &mut Job)
-    ensures { JobTellsRightly (machine_tables tables.now) job.new }
+/// Nothing is told of what a job resolves to.
+fn forget_resolution(job: &mut Job)
+    ensures { (tables : Tables) → JobTellsRightly tables job.new }
 {
     if let Job::Use {
         request: _request,
         used,
     } = job
     {
-        used.resolved = resolution_of(tables, &**used);
+        used.resolved = None;
     }
 }
 
-/// Whether a job is a call that tells what it resolves to.
-fn is_resolved_call(job: &Job) -> bool
+/// Whether a job is a call.
+fn is_call(job: &Job) -> bool
     ensures { result ≡ true → (tables : Tables) (world : World)
         → JobTellsRightly tables job.now → KnownJob tables world job.now }
 {
@@ -191,18 +176,18 @@ fn is_resolved_call(job: &Job) -> bool
         Job::Use {
             request: _request,
             used,
-        } => used.resolved.is_some() && matches!(used.purpose, BeanPurpose::Call { .. }),
+        } => matches!(used.purpose, BeanPurpose::Call { .. }),
         _ => false,
     }
 }
 
-/// Why a job is refused, if it is. The start, the shutdown and a call whose names are known are carried out in any case.
+/// Why a job is refused, if it is. A call is carried out in any case, and the engine asks what it resolves to.
 fn refusal_of<D: Driver>(runtime: &mut Runtime<D>, job: &mut Job) -> Option<Refusal>
     ensures known { result ≡ None
         → KnownJob (machine_tables runtime.new.tables) runtime.new.world job.new }
 {
-    tell_resolution(&runtime.tables, job);
-    if is_resolved_call(job) {
+    forget_resolution(job);
+    if is_call(job) {
         return None;
     }
     runtime.refusal(false, job)

@@ -1,7 +1,9 @@
-pub mod Inherited
+pub mod LastClass
 pub mod OfKind
 pub mod KindLists
 pub mod Lines
+pub mod LineSteps
+pub mod WordsGrown
 pub mod ClassPlaces
 pub mod Listings
 pub mod Cycles
@@ -11,4 +13,5 @@ pub mod Places
 pub mod Refined
 pub mod Steps
 pub mod Supertypes
+pub mod TypesOf
 pub mod SameGraph

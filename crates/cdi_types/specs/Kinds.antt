@@ -1,10 +1,9 @@
 -- The kinds of members.
-use Rattle.std.specs.Prelude.{ℕ, ◌==◌, Bool, List, filter}
+use Rattle.std.specs.Prelude.{Bool, List, filter}
 use Rattle.std.specs.List.{list_any}
 use Rattle.cdi_deployment.specs.declared.deployment.Class.{Class}
 use Rattle.cdi_deployment.specs.declared.deployment.Member.{Member}
 use Rattle.cdi_deployment.specs.declared.deployment.Member.TheVariants as members
-use Rattle.cdi_deployment.specs.Member.{member_name}
 use Rattle.cdi_types.specs.contracts.kind.MemberKindPartialEq.TheImpl as test
 use Rattle.cdi_types.specs.declared.kind.MemberKind.{MemberKind}
 use Rattle.cdi_types.specs.declared.kind.MemberKind.TheVariants as kinds
@@ -29,8 +28,3 @@ of_kind kind parts = filter (λ part. has_kind kind part.1) parts
 -- a class declares a member of a kind
 abbrev pub declares_kind : MemberKind → Class → Bool
 declares_kind kind class = list_any (has_kind kind) class.members
-
--- a class declares a member of a kind with this name
-abbrev pub declares_of_kind : MemberKind → ℕ → Class → Bool
-declares_of_kind kind name class =
-    list_any (λ m. member_name m == name) (filter (has_kind kind) class.members)

@@ -1,7 +1,8 @@
 pub mod Above
 pub mod Kinds
 pub mod Line
-pub mod Lowest
+pub mod NameSet
+pub mod LastClass
 pub mod Members
 pub mod ListsThose
 pub mod Declarations

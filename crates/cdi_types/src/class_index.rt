@@ -1,12 +1,15 @@
 //! The classes of a deployment by their names.
-ghost use Rattle.std.specs.Prelude.{◌≡◌, ◌==◌, ℕ, List, position, nat_eq, map, IfOk};
+ghost use Rattle.std.specs.Prelude.{◌≡◌, ◌==◌, ◌↔◌, ℕ, List, Some, position, nat_eq, map, slice_get, option_and_then, IfOk, IsTrue};
 ghost use Rattle.std.specs.HashMap.{get};
 ghost use Rattle.std.specs.Option.{option_copied};
-ghost use Rattle.cdi_types.specs.Line.{class_named, IsLineOf};
+ghost use Rattle.cdi_types.specs.Line.{class_named, place_named, place_of_superclass, superclass_at, IsLineOf};
+ghost use Rattle.cdi_types.specs.Nodes.{place_of};
+ghost use Rattle.cdi_types.specs.Subtype.{IsAcyclic};
 
+use crate::graph::TypeGraph;
 use crate::line::ClassLine;
 use crate::table::TypeTable;
-use cdi_base::{Name, Seq};
+use cdi_base::{BuiltIn, Name, Seq};
 use cdi_deployment::Class;
 use std::alloc::{AllocError, Global};
 use std::collections::HashMap;
@@ -17,19 +20,23 @@ use std::marker::Model;
 pub struct ClassIndex<'a> {
     classes: &'a [Class],
     places: HashMap<Name, usize>,
+    /// Of each class the place of the first class of the name that it extends.
+    above: Seq<Option<usize>>,
 }
 
 impl<'a> Model for ClassIndex<'a> {
-    ghost use Rattle.std.specs.Prelude.{List, ◌≡◌, ◌==◌, ℕ, position, nat_eq};
+    ghost use Rattle.std.specs.Prelude.{List, ◌≡◌, ◌==◌, ℕ, position, nat_eq, map};
     ghost use Rattle.std.specs.HashMap.{get};
     ghost use Rattle.cdi_deployment.specs.declared.deployment.Class.{Class};
+    ghost use Rattle.cdi_types.specs.Line.{place_named, place_of_superclass};
 
     ghost Value = { List Class };
 
     ghost view = { λ t. t.classes.now };
 
-    ghost invariant = { λ t. (name : ℕ)
-        → get nat_eq t.places name ≡ position (λ c. c.name == name) t.classes.now };
+    ghost invariant = { λ t.
+        ((name : ℕ) → get nat_eq t.places name ≡ place_named t.classes.now name)
+        × (t.above ≡ map (place_of_superclass (place_named t.classes.now)) t.classes.now) };
 }
 
 /// The place of the first class of each name.
@@ -46,21 +53,124 @@ fn places_of(alloc: Global, classes: &[Class]) -> Result<HashMap<Name, usize>, A
     Ok(places)
 }
 
+/// The place of the first class of the name that a class extends.
+fn place_above(places: &HashMap<Name, usize>, class: &Class) -> Option<usize>
+    ensures { result ≡ place_of_superclass (get nat_eq places.now) class.now }
+{
+    places.get(&class.extends?).copied()
+}
+
+/// The places of the first classes of the names that these extend.
+fn places_above(
+    alloc: Global,
+    places: &HashMap<Name, usize>,
+    classes: &[Class],
+) -> Result<Seq<Option<usize>>, AllocError>
+    ensures { IfOk result (λ above. above
+        ≡ map (place_of_superclass (get nat_eq places.now)) classes.now) }
+{
+    let mut above = Seq::empty(alloc);
+    for class in classes {
+        above.push(place_above(places, class))?;
+    }
+    Ok(above)
+}
+
 impl<'a> ClassIndex<'a> {
     /// The classes of a deployment.
     pub fn build(alloc: Global, classes: &'a [Class]) -> Result<ClassIndex<'a>, AllocError>
         ensures { IfOk result (λ index. index ≡ classes.now) }
     {
         let places = places_of(alloc, classes)?;
-        Ok(ClassIndex { classes, places })
+        let above = places_above(alloc, &places, classes)?;
+        Ok(ClassIndex {
+            classes,
+            places,
+            above,
+        })
+    }
+
+    /// The place of the first class of a name, if one has it.
+    fn place(&self, name: Name) -> Option<usize>
+        ensures { result ≡ place_named self.now name }
+    {
+        self.places.get(&name).copied()
+    }
+
+    /// The class at a place, if there is one.
+    fn at(&self, place: Option<usize>) -> Option<&'a Class>
+        ensures { option_copied result ≡ option_and_then (slice_get self.now) place }
+    {
+        self.classes.get(place?)
     }
 
     /// The class of a name, if one has it. If several have it, the first one counts.
     pub fn class(&self, name: Name) -> Option<&'a Class>
         ensures { option_copied result ≡ class_named self.now name }
     {
-        let place = self.places.get(&name).copied()?;
-        self.classes.get(place)
+        self.at(self.place(name))
+    }
+
+    /// Whether the class at a place extends the class of a name.
+    fn extends(&self, place: usize, superclass: Name) -> bool
+        ensures { IsTrue result ↔ (superclass_at self.now place ≡ Some superclass) }
+    {
+        match self.classes.get(place) {
+            Some(class) => class.extends == Some(superclass),
+            None => false,
+        }
+    }
+
+    /// The place of the first class of the name that the class at a place extends.
+    fn place_above(&self, place: usize) -> Option<usize>
+        ensures { result ≡ option_and_then (place_named self.now) (superclass_at self.now place) }
+    {
+        *self.above.get(place)?
+    }
+
+    /// The place of the first class of a superclass's name, if one has it. Where the class at a place extends it, nothing is looked up.
+    fn superclass_place(&self, place: Option<usize>, superclass: Name) -> Option<usize>
+        ensures { result ≡ place_named self.now superclass }
+    {
+        match place {
+            Some(place) if self.extends(place, superclass) => self.place_above(place),
+            _ => self.place(superclass),
+        }
+    }
+
+    /// The classes of the lineage of a name, the topmost first, by the place of its first declaration and that of its first class. It
+    /// recurses as deep as there are superclasses.
+    fn line_from(
+        &self,
+        alloc: Global,
+        graph: &TypeGraph,
+        name: Name,
+        place: Option<usize>,
+        class_place: Option<usize>,
+    ) -> Result<Seq<&'a Class>, AllocError>
+        requires acyclic { IsAcyclic graph.now }
+        requires place { place ≡ place_of graph.now name }
+        requires class { class_place ≡ place_named self.now name }
+        ensures { IfOk result
+            (λ line. IsLineOf graph.now self.now name (map (λ c. c.now) line)) }
+    {
+        if name == BuiltIn::Object.name() {
+            return Ok(Seq::empty(alloc));
+        }
+        let mut line = match graph.superclass_from(place) {
+            Some(above) => self.line_from(
+                alloc,
+                graph,
+                above,
+                graph.superclass_place_from(place),
+                self.superclass_place(class_place, above),
+            )?,
+            None => Seq::empty(alloc),
+        };
+        if let Some(class) = self.at(class_place) {
+            line.push(class)?;
+        }
+        Ok(line)
     }
 
     /// The class of a name with its superclasses below `Object`, the topmost first. A name that no class has is passed over, so
@@ -73,13 +183,8 @@ impl<'a> ClassIndex<'a> {
     ) -> Result<ClassLine<'a>, AllocError>
         ensures { IfOk result (λ line. IsLineOf types.now self.now name line) }
     {
-        let names = types.lineage(alloc, name)?;
-        let mut classes = Seq::empty(alloc);
-        for name in names.as_slice() {
-            if let Some(class) = self.class(*name) {
-                classes.push(class)?;
-            }
-        }
-        Ok(ClassLine::new(classes))
+        let graph = types.graph();
+        let line = self.line_from(alloc, graph, name, graph.place(name), self.place(name))?;
+        Ok(ClassLine::new(line))
     }
 }

@@ -1,6 +1,5 @@
 //! The kinds of members.
-ghost use Rattle.std.specs.Prelude.{◌≡◌};
-ghost use Rattle.std.specs.List.{list_any};
+ghost use Rattle.std.specs.Prelude.{◌≡◌, position};
 ghost use Rattle.cdi_types.specs.Kinds as spec;
 
 use cdi_deployment::{Class, Member};
@@ -57,10 +56,10 @@ impl MemberKind {
         class.members.iter().any(|member| self.is_of(member))
     }
 
-    /// Whether a class of a line declares a member of this kind.
-    pub(crate) fn is_declared_in(self, line: &[&Class]) -> bool
-        ensures { result ≡ list_any (λ c. spec.declares_kind self c.now) line.now }
+    /// The place of the first class of a line that declares a member of this kind, if one does.
+    pub(crate) fn first_in(self, line: &[&Class]) -> Option<usize>
+        ensures { result ≡ position (λ c. spec.declares_kind self c.now) line.now }
     {
-        line.iter().any(|class| self.is_declared_by(class))
+        line.iter().position(|class| self.is_declared_by(class))
     }
 }

@@ -1,14 +1,16 @@
 //! A class with its superclasses.
-ghost use Rattle.std.specs.Prelude.{◌≡◌, ◌++◌, map, filter, IfOk, OnOk};
+ghost use Rattle.std.specs.Prelude.{◌≡◌, ◌++◌, map, filter, reverse, IfOk, OnOk};
+ghost use Rattle.cdi_types.specs.LastClass as last;
 ghost use Rattle.cdi_types.specs.Kinds.{has_kind, of_kind};
-ghost use Rattle.cdi_types.specs.Lowest.{place_in, is_had};
+ghost use Rattle.cdi_types.specs.NameSet.{has};
 ghost use Rattle.cdi_types.specs.Members as spec;
 
 use crate::kind::MemberKind;
-use crate::lowest::LowestDeclarations;
+use crate::member::is_inherited;
+use crate::name_set::NameSet;
 use crate::part::ClassPart;
 use cdi_base::Seq;
-use cdi_deployment::{Class, Field, InjectedField, Member};
+use cdi_deployment::{Class, Field, Member};
 use std::alloc::{AllocError, Global};
 use std::marker::Model;
 
@@ -41,44 +43,62 @@ fn add_parts<'a, T>(
     Ok(())
 }
 
-/// Adds those members of the class at a place that the last class of the line has.
+/// Whether the last class of a line has a member of a class of the line. The classes below that declare these names.
+fn is_had(member: &Member, is_last: bool, below: &NameSet) -> bool
+    ensures { result ≡ last.is_had (has below.now) is_last member.now }
+{
+    is_last || (is_inherited(member) && !below.contains(member.name()))
+}
+
+/// Adds those members of a class that the last class of the line has, the last one first.
 fn add_members<'a>(
     class: &'a Class,
-    place: usize,
     is_last: bool,
-    lowest: &LowestDeclarations,
+    below: &NameSet,
     found: &mut Seq<ClassPart<'a, Member>>,
 ) -> Result<(), AllocError>
-    ensures { OnOk result (found.new ≡ found.old ++ spec.parts_of class.now
-        (filter (is_had (place_in lowest.now) place is_last) class.now.members)) }
+    ensures { OnOk result (reverse found.new ≡ spec.parts_of class.now
+        (filter (last.is_had (has below.now) is_last) class.now.members) ++ reverse found.old) }
 {
-    for part in class.members.as_slice() {
-        if lowest.is_had(place, is_last, part) {
+    let members = class.members.as_slice();
+    for place in (0..members.len()).rev() {
+        let part = &members[place];
+        if is_had(part, is_last, below) {
             found.push(ClassPart { class, part })?;
         }
     }
     Ok(())
 }
 
-/// Adds those members of a kind of the class at a place that the last class of the line has.
+/// Adds those members of a kind of a class that the last class of the line has, the last one first.
 fn add_members_of_kind<'a>(
     class: &'a Class,
-    place: usize,
     is_last: bool,
-    lowest: &LowestDeclarations,
+    below: &NameSet,
     kind: MemberKind,
     found: &mut Seq<ClassPart<'a, Member>>,
 ) -> Result<(), AllocError>
-    ensures { OnOk result (found.new ≡ found.old ++ spec.parts_of class.now
-        (filter (is_had (place_in lowest.now) place is_last)
-        (filter (has_kind kind) class.now.members))) }
+    ensures { OnOk result (reverse found.new ≡ spec.parts_of class.now
+        (filter (last.is_had (has below.now) is_last)
+        (filter (has_kind kind) class.now.members)) ++ reverse found.old) }
 {
-    for part in class.members.as_slice() {
-        if kind.is_of(part) && lowest.is_had(place, is_last, part) {
+    let members = class.members.as_slice();
+    for place in (0..members.len()).rev() {
+        let part = &members[place];
+        if kind.is_of(part) && is_had(part, is_last, below) {
             found.push(ClassPart { class, part })?;
         }
     }
     Ok(())
+}
+
+/// What was found, the other way round.
+fn in_reverse<T>(found: Seq<T>) -> Seq<T>
+    ensures { result ≡ reverse found }
+{
+    let mut items = found.into_vec();
+    items.reverse();
+    Seq::new(items)
 }
 
 impl<'a> ClassLine<'a> {
@@ -107,21 +127,6 @@ impl<'a> ClassLine<'a> {
         Ok(fields)
     }
 
-    /// The injected fields that the last class of the line has (Jakarta CDI 4.0, *Inheritance of member-level metadata*): those of
-    /// all its classes, none of which is overridden.
-    pub fn injected_fields(
-        &self,
-        alloc: Global,
-    ) -> Result<Seq<ClassPart<'a, InjectedField>>, AllocError>
-        ensures { IfOk result (λ fields. fields ≡ spec.injected_fields_of self.now) }
-    {
-        let mut fields = Seq::empty(alloc);
-        for class in self.classes.as_slice() {
-            add_parts(class, class.inject.as_slice(), &mut fields)?;
-        }
-        Ok(fields)
-    }
-
     /// The members that the last class of the line has (Jakarta CDI 4.0, *Inheritance of member-level metadata*; Jakarta Interceptors
     /// 2.1, *Interceptor Methods for Lifecycle Event Callbacks*): its own, and those that it inherits. Methods, initializers,
     /// callbacks and observers are inherited unless a class below declares a member with their name; producers, producer fields and
@@ -130,17 +135,21 @@ impl<'a> ClassLine<'a> {
     pub fn members(&self, alloc: Global) -> Result<Seq<ClassPart<'a, Member>>, AllocError>
         ensures { IfOk result (λ members. members ≡ spec.members_of self.now) }
     {
-        let lowest = LowestDeclarations::of(alloc, self.classes.as_slice())?;
-        let mut members = Seq::empty(alloc);
-        for (place, class) in self.classes.as_slice().iter().enumerate() {
-            let is_last = place + 1 == self.classes.len();
-            add_members(class, place, is_last, &lowest, &mut members)?;
+        let classes = self.classes.as_slice();
+        let mut below = NameSet::new(alloc);
+        let mut found = Seq::empty(alloc);
+        for place in (0..classes.len()).rev() {
+            let class = classes[place];
+            add_members(class, place + 1 == classes.len(), &below, &mut found)?;
+            if place > 0 {
+                below.insert_members(class)?;
+            }
         }
-        Ok(members)
+        Ok(in_reverse(found))
     }
+
     /// Those members of a kind that the last class of the line has, as [`ClassLine::members`] lists them. It takes time in
-    /// proportion to what all classes of the line declare, and memory in proportion to what they declare of this kind: none if they
-    /// declare none.
+    /// proportion to what all classes of the line declare, and no memory if they declare none of this kind.
     pub fn members_of_kind(
         &self,
         alloc: Global,
@@ -148,16 +157,20 @@ impl<'a> ClassLine<'a> {
     ) -> Result<Seq<ClassPart<'a, Member>>, AllocError>
         ensures { IfOk result (λ members. members ≡ of_kind kind (spec.members_of self.now)) }
     {
-        let classes = self.classes.as_slice();
-        let mut members = Seq::empty(alloc);
-        if !kind.is_declared_in(classes) {
-            return Ok(members);
+        let line = self.classes.as_slice();
+        let Some(topmost) = kind.first_in(line) else {
+            return Ok(Seq::empty(alloc));
+        };
+        let classes = &line[topmost..];
+        let mut below = NameSet::new(alloc);
+        let mut found = Seq::empty(alloc);
+        for place in (0..classes.len()).rev() {
+            let class = classes[place];
+            add_members_of_kind(class, place + 1 == classes.len(), &below, kind, &mut found)?;
+            if place > 0 {
+                below.insert_members(class)?;
+            }
         }
-        let lowest = LowestDeclarations::of_kind(alloc, classes, kind)?;
-        for (place, class) in classes.iter().enumerate() {
-            let is_last = place + 1 == classes.len();
-            add_members_of_kind(class, place, is_last, &lowest, kind, &mut members)?;
-        }
-        Ok(members)
+        Ok(in_reverse(found))
     }
 }

@@ -1,12 +1,13 @@
 //! The table of the types.
-ghost use Rattle.std.specs.Prelude.{◌≡◌, ◌≢◌, ◌↔◌, IsTrue, IfOk, OnOk, IfErr};
+ghost use Rattle.std.specs.Prelude.{◌≡◌, ◌≢◌, ◌↔◌, ◌⊎◌, ℕ, IsTrue, IfOk, OnOk, IfErr};
+ghost use Rattle.cdi_types.specs.NameSet.{has};
 ghost use Rattle.cdi_types.specs.ListsThose.{ListsThose};
 ghost use Rattle.cdi_types.specs.Table.{IsSound, IsRefused};
 
 use crate::declaration::TypeDeclaration;
 use crate::fault::TypesFault;
 use crate::graph::TypeGraph;
-use crate::lineage::lineage_of;
+use crate::name_set::NameSet;
 use cdi_base::{BuiltIn, Name, OrMemory, Seq};
 use cdi_deployment::Deployment;
 use std::alloc::{AllocError, Global};
@@ -132,6 +133,23 @@ impl TypeTable {
         Ok(found)
     }
 
+    /// Puts the types that a type is a subtype of into a set of names.
+    pub fn add_types_of(
+        &self,
+        alloc: Global,
+        name: Name,
+        names: &mut NameSet,
+    ) -> Result<(), AllocError>
+        ensures { OnOk result ((other : ℕ) → IsTrue (has names.new other)
+            ↔ (spec.IsSubtype self.now name other ⊎ IsTrue (has names.old other))) }
+    {
+        self.law_sound();
+        let found = self.types_of(alloc, name)?;
+        names.insert(name)?;
+        names.insert_all(found.as_slice())?;
+        Ok(())
+    }
+
     /// The class that a class extends directly, if it names one. Where a name is declared twice, the first declaration counts.
     pub fn superclass_of(&self, name: Name) -> Option<Name>
         ensures { result ≡ lineage.superclass_of self.now name }
@@ -139,10 +157,11 @@ impl TypeTable {
         self.graph.superclass_of(name)
     }
 
-    /// A class with its superclasses below `Object`, the topmost first.
-    pub fn lineage(&self, alloc: Global, name: Name) -> Result<Seq<Name>, AllocError>
-        ensures { IfOk result (λ names. lineage.IsLineage self.now name names) }
+    /// The types with the graph of what stands above what, which has no cycle.
+    pub(crate) fn graph(&self) -> &TypeGraph
+        ensures graph { result.now ≡ self.now }
+        ensures acyclic { spec.IsAcyclic self.now }
     {
-        lineage_of(alloc, &self.graph, name, self.graph.place(name))
+        &self.graph
     }
 }

@@ -1,6 +1,6 @@
 use Rattle.cdi_bodies.specs.Table.{entries_of}
 use Rattle.cdi_body_check.specs.Shapes.{shape_of}
-use Rattle.cdi_body_check.specs.Sites.{Site, class_sites}
+use Rattle.cdi_body_check.specs.Sites.{class_sites}
 use Rattle.cdi_shape_check.specs.Application.{application_of}
 use Rattle.cdi_shape_check.specs.BodyOutsideShape.{HasBodyOutsideShape}
 use Rattle.cdi_shape_check.proofs.AddingShapes.{none_added, next_added}

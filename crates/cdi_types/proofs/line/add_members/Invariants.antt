@@ -1,9 +1,9 @@
-use Rattle.std.proofs.Common.{◌≡◌, ◌++◌, filter, drop}
-use Rattle.cdi_types.specs.Lowest.{place_in, is_had}
-use Rattle.cdi_types.specs.Members as spec
+use Rattle.std.proofs.Common.{◌≡◌, ◌++◌, filter, drop, reverse}
+use Rattle.cdi_types.specs.LastClass.{is_had}
+use Rattle.cdi_types.specs.Members.{parts_of}
+use Rattle.cdi_types.specs.NameSet.{has}
 use Rattle.cdi_types.proofs.line.add_members.Given as goal
 
-abbrev pub invariant-loop-part : goal.invariant-loop-part
-invariant-loop-part l =
-    l.found ++ spec.parts_of l.class (filter (is_had (place_in l.lowest) l.place l.is_last) (drop l.part-index l.part-items))
-    ≡ l.initial.found ++ spec.parts_of l.class (filter (is_had (place_in l.lowest) l.place l.is_last) l.part-items)
+abbrev pub invariant-loop-place : goal.invariant-loop-place
+invariant-loop-place l =
+    reverse l.found ≡ parts_of l.class (filter (is_had (has l.below) l.is_last) (drop l.place l.members)) ++ reverse l.initial.found

@@ -5,8 +5,17 @@ use Rattle.cdi_types.specs.Line.{class_named, IsLineOf}
 use Rattle.cdi_live.specs.Needs.{needed_at}
 use Rattle.cdi_live.specs.OwnPoints.{constructor_points, line_points}
 use Rattle.cdi_live.specs.Settings.{setting_of}
+use Rattle.cdi_live.proofs.FieldNeeds.{line_named}
 use Rattle.cdi_live.proofs.Growing.{joined}
 use Rattle.cdi_live.proofs.deployment_tables.DeploymentTables.add_managed.Goals as goal
+
+pub add_of_line-requires-clause-named : goal.add_of_line-requires-clause-named
+add_of_line-requires-clause-named c =
+    let self = c.args.self.now in
+    let b = c.args.bean.now in
+    let line = c.in_ok-line.line in
+    let is_line : IsLineOf self.live.now.types self.live.now.classes b.class line = rw (self.same_types, self.same_classes) at c.in_ok-line.ensures in
+    line_named (setting_of self) b.class line is_line
 
 pub returns : goal.returns
 returns c =

@@ -16,4 +16,4 @@ returns c = λ i there.
     let first : c.add_managed.new.needs ≡ filter_map f added.points = added.adds ∙ ap (λ ns. ns ++ filter_map f added.points) c.empty-needs.ensures in
     let is : c.add_interceptors.new.needs ≡ filter_map f added.points ++ those = c.in_ok-add_interceptors.ensures ∙ ap (λ ns. ns ++ those) first in
     let P : List Node → Type 0 = NeedsThose s (Bean i) in
-    subst P (sym is) (NeedsThose.managed there c.requires added.are)
+    subst P (sym is) (NeedsThose.managed there c.requires.managed added.are)

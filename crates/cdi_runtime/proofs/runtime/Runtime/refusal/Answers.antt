@@ -21,6 +21,10 @@ returns-in-Use-clause-rightly g c =
 
 pub returns-in-Use-clause-known : goal.returns-in-Use-clause-known
 returns-in-Use-clause-known g c =
+    subst (λ r. c.refuses_use.result ≡ None → TellsRightly (machine_tables r.tables) c.refuses_use.new.used) c.self.view_is (λ none. (c.refuses_use.ensures.resolved none).rightly)
+
+pub returns-in-Use-clause-resolved : goal.returns-in-Use-clause-resolved
+returns-in-Use-clause-resolved g c =
     subst (λ r. c.refuses_use.result ≡ None → IsResolved (machine_tables r.tables) c.refuses_use.new.used) c.self.view_is c.refuses_use.ensures.resolved
 
 pub returns-in_default-job-clause-known : goal.returns-in_default-job-clause-known

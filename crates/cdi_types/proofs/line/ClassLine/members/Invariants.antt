@@ -1,12 +1,12 @@
-use Rattle.std.proofs.Common.{◌≡◌, ◌++◌, ℕ, Option, map, drop}
-use Rattle.cdi_types.specs.Lowest.{place_in, lowest_from}
-use Rattle.cdi_types.specs.Members.{members_of}
+use Rattle.std.proofs.Common.{◌≡◌, ◌<◌, ℕ, map, drop, reverse}
+use Rattle.std.specs.List.{list_any}
+use Rattle.cdi_types.specs.Members.{declares, members_of}
+use Rattle.cdi_types.specs.NameSet.{has}
 use Rattle.cdi_types.proofs.line.ClassLine.members.Given as goal
 
-pub record Invariant (l : goal.Live-loop-place) : Type 0 where
-  pub before : ℕ → Option ℕ
-  pub known : (name : ℕ) → place_in l.lowest name ≡ lowest_from l.place (map (λ c. c.now) (drop l.place l.class-items)) name (before name)
-  pub so_far : l.members ++ members_of (map (λ c. c.now) (drop l.place l.class-items)) ≡ members_of (map (λ c. c.now) l.class-items)
-
+-- the names of the classes that were looked at matter only where there are classes above
 abbrev pub invariant-loop-place : goal.invariant-loop-place
-invariant-loop-place l = Invariant l
+invariant-loop-place l = record {
+  below : 0 < l.place → (name : ℕ) → has l.below name ≡ list_any (declares name) (map (λ c. c.now) (drop l.place l.classes));
+  found : reverse l.found ≡ members_of (map (λ c. c.now) (drop l.place l.classes));
+}

@@ -1,35 +1,58 @@
-use Rattle.std.proofs.Common.{◌≡◌, ◌∙◌, ◌++◌, None, Some, length, map, if◌then◌else◌, sym, ap, refl}
-use Rattle.cdi_types.specs.Kinds.{of_kind}
-use Rattle.cdi_types.specs.Lowest.{place_in}
-use Rattle.cdi_types.specs.Members.{declares, members_of}
-use Rattle.cdi_types.proofs.OfKind.{line, none_of_kind, knows_kind, goes_on_kind}
+use Rattle.std.proofs.Common.{Bor, ◌≡◌, ◌<◌, ◌≤◌, ◌+◌, ◌-◌, ◌∙◌, ℕ, List, Some, length, take, drop, position, reverse, refl, sym, ap, arith, length-drop}
+use Rattle.std.proofs.lemmas.List.{take_all}
+use Rattle.cdi_deployment.specs.declared.deployment.Class.{Class}
+use Rattle.cdi_types.specs.Kinds.{of_kind, declares_kind}
+use Rattle.cdi_types.specs.Members.{members_of}
+use Rattle.cdi_types.specs.NameSet.{has}
+use Rattle.cdi_types.proofs.LastClass.{line, knows_more}
+use Rattle.cdi_types.proofs.OfKind.{none_of_kind, from_topmost, finds_more_of_kind}
 use Rattle.cdi_types.proofs.line.ClassLine.members_of_kind.Goals as goal
 
-pub returns-then-not-is_declared_in : goal.returns-then-not-is_declared_in
-returns-then-not-is_declared_in c =
-    let all : c.args.self.now ≡ line c.as_slice-classes.result.now = sym c.self.view_is ∙ ap line (sym c.as_slice-classes.ensures) in
-    c.empty-members.ensures
-    ∙ sym (ap (λ cs. of_kind c.args.kind (members_of cs)) all ∙ none_of_kind c.args.kind c.as_slice-classes.result.now (sym c.is_declared_in.ensures ∙ c.if-not-is_declared_in.true))
+pub returns-in_default : goal.returns-in_default
+returns-in_default c =
+    let all = c.as_slice-line.result.now in
+    let is : c.args.self.now ≡ line all = sym c.self.view_is ∙ ap line (sym c.as_slice-line.ensures) in
+    c.empty.ensures ∙ sym (ap (λ cs. of_kind c.args.kind (members_of cs)) is ∙ none_of_kind c.args.kind all (sym c.first_in.ensures ∙ c.in_default.is))
 
-pub loop-place-init : goal.loop-place-init
-loop-place-init c =
+pub returns : goal.returns
+returns c =
+    let kind = c.args.kind in
+    let all : List (Bor Class) = c.as_slice-line.result.now in
+    let k : ℕ = c.in-Some.topmost in
+    let is : c.args.self.now ≡ line all = sym c.self.view_is ∙ ap line (sym c.as_slice-line.ensures) in
+    let first : position (λ (c : Bor Class). declares_kind kind c.now) all ≡ Some k = sym c.first_in.ensures ∙ c.in-Some.is in
+    let short : length (drop k all) ≤ length all - k = omega (arith, length-drop k all) in
+    let up : c.loop-place.place ≡ 0 = omega (arith, c.loop-place-test.false) in
+    c.in_reverse.ensures ∙ c.loop-place.invariant.found
+    ∙ ap (λ p. of_kind kind (members_of (line (drop p (take (length all - k) (drop k all)))))) up
+    ∙ ap (λ cs. of_kind kind (members_of (line cs))) (take_all (length all - k) (drop k all) short)
+    ∙ from_topmost kind all k first
+    ∙ sym (ap (λ cs. of_kind kind (members_of cs)) is)
+
+pub loop-place-preserved-in-Continue-branch-2 : goal.loop-place-preserved-in-Continue-branch-2
+loop-place-preserved-in-Continue-branch-2 c =
+    let l = c.loop-place in
+    let all : List (Bor Class) = c.as_slice-line.result.now in
+    let items : List (Bor Class) = take (length all - c.in-Some.topmost) (drop c.in-Some.topmost all) in
+    let i : ℕ = l.place - 1 in
+    let next : i + 1 ≡ l.place = omega (arith, c.loop-place-test.true) in
+    let within : i < length items = omega (arith, c.loop-place-test.true, l.auto.place) in
+    let knows = l.invariant.below c.loop-place-test.true in
     record {
-      before = λ name. None;
-      known = λ name declared. c.in_ok-lowest.ensures name declared;
-      so_far = ap (λ ms. ms ++ of_kind c.args.kind (members_of (map (λ k. k.now) c.as_slice-classes.result.now))) c.empty-members.ensures;
+      below = λ above. knows_more items l.place i c.index-classes-place.result next within c.index-classes-place.is (has l.below) _ knows c.in_ok-insert_members.ensures;
+      found = finds_more_of_kind c.args.kind items l.place i c.index-classes-place.result next within c.index-classes-place.is (has l.below) knows _ refl (reverse l.found) _ l.invariant.found c.in_ok-add_members_of_kind.ensures;
     }
 
 pub loop-place-preserved : goal.loop-place-preserved
 loop-place-preserved c =
-    let kind = c.args.kind in
-    let lowest = place_in c.in_ok-lowest.lowest in
-    let items = c.as_slice-classes.result.now in
-    let i = c.loop-place.place in
-    let class = c.index-classes-place.result in
-    let before = c.loop-place.invariant.before in
-    let known = c.loop-place.invariant.known in
+    let l = c.loop-place in
+    let all : List (Bor Class) = c.as_slice-line.result.now in
+    let items : List (Bor Class) = take (length all - c.in-Some.topmost) (drop c.in-Some.topmost all) in
+    let i : ℕ = l.place - 1 in
+    let next : i + 1 ≡ l.place = omega (arith, c.loop-place-test.true) in
+    let within : i < length items = omega (arith, c.loop-place-test.true, l.auto.place) in
+    let knows = l.invariant.below c.loop-place-test.true in
     record {
-      before = λ name. if declares name class.now then Some i else before name;
-      known = knows_kind kind lowest items i class c.loop-place-test.true c.index-classes-place.is before known;
-      so_far = goes_on_kind kind lowest items i class c.loop-place-test.true c.index-classes-place.is before known (length items) refl c.loop-place.members c.add_members_of_kind.new.found _ c.in_ok-add_members_of_kind.ensures c.loop-place.invariant.so_far;
+      below = λ above. absurd (omega (arith, above, c.if-place-gt0.false));
+      found = finds_more_of_kind c.args.kind items l.place i c.index-classes-place.result next within c.index-classes-place.is (has l.below) knows _ refl (reverse l.found) _ l.invariant.found c.in_ok-add_members_of_kind.ensures;
     }

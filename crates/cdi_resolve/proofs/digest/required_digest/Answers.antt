@@ -1,0 +1,8 @@
+use Rattle.std.proofs.Common.{◌∙◌, ◌≤◌, min, length, sym, arith}
+use Rattle.cdi_resolve.proofs.Digesting.{required_ended}
+use Rattle.cdi_resolve.proofs.digest.required_digest.Goals as goal
+
+pub returns : goal.returns
+returns c =
+    let past : min (length c.args.flags.now) (length c.args.members.now) ≤ c.loop-i.i = omega (arith, c.loop-i-test.false, c.min-i-end.ensures) in
+    sym (required_ended c.args.flags.now c.args.members.now c.loop-i.i c.loop-i.digest past) ∙ c.loop-i.invariant

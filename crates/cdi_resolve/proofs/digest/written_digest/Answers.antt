@@ -1,0 +1,9 @@
+use Rattle.std.proofs.Common.{◌∙◌, ◌≤◌, min, length, sym, arith}
+use Rattle.cdi_quals.specs.Qualifiers.{full_member}
+use Rattle.cdi_resolve.proofs.Digesting.{given_ended}
+use Rattle.cdi_resolve.proofs.digest.written_digest.Goals as goal
+
+pub returns : goal.returns
+returns c =
+    let past : min (length c.args.flags.now) (length c.args.members.now) ≤ c.loop-i.i = omega (arith, c.loop-i-test.false, c.min-i-end.ensures) in
+    sym (given_ended (full_member c.args.given.now) c.args.flags.now c.args.members.now c.loop-i.i c.loop-i.digest past) ∙ c.loop-i.invariant

@@ -1,6 +1,0 @@
-use Rattle.std.proofs.Common.{◌≡◌, ◌++◌, map, drop}
-use Rattle.cdi_types.specs.Members.{injected_fields_of}
-use Rattle.cdi_types.proofs.line.ClassLine.injected_fields.Given as goal
-
-abbrev pub invariant-loop-class : goal.invariant-loop-class
-invariant-loop-class l = l.fields ++ injected_fields_of (map (λ c. c.now) (drop l.class-index l.class-items)) ≡ injected_fields_of (map (λ c. c.now) l.class-items)
