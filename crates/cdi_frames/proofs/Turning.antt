@@ -1,5 +1,5 @@
 -- What the steps of a turn have come to, from one to the next.
-use Rattle.std.proofs.Common.{ℕ, ◌≡◌, ◌<◌, ◌+◌, List, [], ◌∷◌, length, refl, arith}
+use Rattle.std.proofs.Common.{ℕ, ◌≡◌, ◌∙◌, ◌<◌, ◌≤◌, ◌+◌, List, [], ◌∷◌, length, refl, ap, arith}
 use Rattle.std.specs.Prelude.{Ok, IsErr}
 use Rattle.std.specs.Prelude.{Result as Either}
 use Rattle.cdi_base.specs.declared.entry.Entry.{Entry}
@@ -17,6 +17,7 @@ use Rattle.cdi_steps.specs.Ranks.{rank, back_rank}
 use Rattle.cdi_steps.specs.Steps.{IsStep, Steps, Follows, nothing_legal}
 use Rattle.cdi_steps.specs.Driving.{IsAskedFor, HasFailed}
 use Rattle.cdi_steps.proofs.Made.{driven}
+use Rattle.cdi_steps.specs.declared.task.Call.{Call}
 use Rattle.cdi_steps.specs.declared.task.Continuation.{Continuation}
 use Rattle.cdi_steps.specs.declared.task.Outcome.{Outcome}
 use Rattle.cdi_steps.specs.declared.task.Outcome.TheVariants as outcomes
@@ -37,6 +38,13 @@ use Rattle.cdi_frames.proofs.StaysKnown.{known_after, known_written, known_full}
 use Rattle.cdi_frames.proofs.Stacks.{steps_run, steps_then, steps_before, does_step, gives_step, writes_step, fills_step, ends_step, turned_err, starves_here}
 use Rattle.cdi_frames.proofs.Loads.{does_lowers, gives_lowers, writes_lowers, fills_lowers, grown_still, grown_written}
 use Rattle.cdi_frames.proofs.Hearing.{asks_nothing, does_hears, gives_hears, writes_hears, fills_hears, ends_hears, turns_then, failed_at, failed_turn}
+
+-- what is next, once it is told apart
+pub task_is : {now : Next} {p q : Task} → now ≡ nexts.Goes p → p ≡ q → now ≡ nexts.Goes q
+task_is e f = e ∙ ap nexts.Goes f
+
+pub call_is : {now : Next} {p : Task} {c d : Call} → now ≡ nexts.Goes p → p ≡ tasks.Start c → c ≡ d → now ≡ nexts.Goes (tasks.Start d)
+call_is e f h = e ∙ ap nexts.Goes (f ∙ ap tasks.Start h)
 
 -- From this stack and world, where the driver had been through that, steps have led here.
 pub record IsUnderWay (t : Tables) (legal : Legal) (before : Hearing → Type 0) (most : ℕ) (a : Stack) (w : World)
@@ -66,11 +74,15 @@ module _ {t : Tables} {small large : Legal} (n : IsWithin small large) {before h
       → IsStep t small (first p) (rank p) u next v → IsAskedFor next heard later → IsUnderWay t large before most a w (stack_after ks next) later v
   goes_done ks now next p v e h s x = task_done ks p next v (rw e at h) s x
 
-  -- and one for whose outcome a frame waits
-  pub needs_done : {later : Hearing → Type 0} (ks js : List Frame) (now next : Next) (p : Task) (k : Frame) (v : World) → now ≡ nexts.Needs p k → js ≡ k ∷ ks
-      → IsUnderWay t large before most a w (stack_after ks now) heard u → IsStep t small (first p) (rank p) u next v → IsAskedFor next heard later
-      → IsUnderWay t large before most a w (stack_after js next) later v
-  needs_done ks js now next p k v e f h s x = rw f (task_done (k ∷ ks) p next v (rw e at h) s x)
+  -- and one for whose outcome a frame waits, which comes on the stack
+  pub needs_done : (ks js : List Frame) (now : Next) (p : Task) (k : Frame) → now ≡ nexts.Needs p k → js ≡ k ∷ ks → IsUnderWay t large before most a w (stack_after ks now) heard u
+      → IsUnderWay t large before most a w (stack_after js (nexts.Goes p)) heard u
+  needs_done ks js now p k e f h = rw f (rw e at h)
+
+  -- the same of a task for which no driver is asked
+  pub goes_moves : (ks : List Frame) (now next : Next) (p : Task) (v : World) → now ≡ nexts.Goes p → IsUnderWay t large before most a w (stack_after ks now) heard u → Steps t (first p) (rank p) u next v
+      → IsUnderWay t large before most a w (stack_after ks next) heard v
+  goes_moves ks now next p v e h s = goes_done ks now next p v e h (driven small s) (asks_nothing next s.quiet)
 
   -- ---- a frame
 
@@ -158,29 +170,51 @@ module _ {t : Tables} {legal : Legal} {before heard : Hearing → Type 0} {most 
 
 -- ---- loads
 
-module _ {t : Tables} {legal : Legal} {u v : World} where
-  pub goes_lowers : (ks : List Frame) (now next : Next) (p : Task) → now ≡ nexts.Goes p → IsStep t legal (first p) (rank p) u next v → load_of (stack_after ks next) v < load_of (stack_after ks now) u
-  goes_lowers ks now next p e s = rw e (does_lowers t legal (stack_at ks (pendings.Does p)) (stack_after ks next) p next u v refl refl refl s.leads s.lowers)
+-- What each step of the loop lowers: a frame that is still to be put on the stack counts, too.
+abbrev pub pushes : Next → ℕ
+pushes (nexts.Needs p k) = 1
+pushes _ = 0
 
-  pub needs_lowers : (ks js : List Frame) (now next : Next) (p : Task) (k : Frame) → now ≡ nexts.Needs p k → js ≡ k ∷ ks → IsStep t legal (first p) (rank p) u next v
-      → load_of (stack_after js next) v < load_of (stack_after ks now) u
-  needs_lowers ks js now next p k e f s = rw (e, f) (does_lowers t legal (stack_at (k ∷ ks) (pendings.Does p)) (stack_after (k ∷ ks) next) p next u v refl refl refl s.leads s.lowers)
+abbrev pub turn_load : List Frame → Next → World → ℕ
+turn_load ks next w = load_of (stack_after ks next) w + load_of (stack_after ks next) w + pushes next
+
+pushes_most : (next : Next) → pushes next ≤ 1
+pushes_most (nexts.Finished o) = omega arith
+pushes_most (nexts.Goes p) = omega arith
+pushes_most (nexts.Needs p k) = omega arith
+pushes_most (nexts.Writes e x) = omega arith
+
+less_twice : (m n x y : ℕ) → m < n → x ≤ 1 → m + m + x < n + n + y
+less_twice m n x y h i = omega (arith, h, i)
+
+one_less : (m : ℕ) → m + m + 0 < m + m + 1
+one_less m = omega arith
+
+turn_lowers : (ks js : List Frame) (now next : Next) (u v : World) → load_of (stack_after js next) v < load_of (stack_after ks now) u → turn_load js next v < turn_load ks now u
+turn_lowers ks js now next u v h = less_twice _ _ _ (pushes now) h (pushes_most next)
+
+pub needs_lowers : (ks js : List Frame) (now : Next) (p : Task) (k : Frame) (u : World) → now ≡ nexts.Needs p k → js ≡ k ∷ ks → turn_load js (nexts.Goes p) u < turn_load ks now u
+needs_lowers ks js now p k u e f = rw (e, f) (one_less (load_of (stack_at (k ∷ ks) (pendings.Does p)) u))
+
+module _ {t : Tables} {legal : Legal} {u v : World} where
+  pub goes_lowers : (ks : List Frame) (now next : Next) (p : Task) → now ≡ nexts.Goes p → IsStep t legal (first p) (rank p) u next v → turn_load ks next v < turn_load ks now u
+  goes_lowers ks now next p e s = turn_lowers ks ks now next u v (rw e (does_lowers t legal (stack_at ks (pendings.Does p)) (stack_after ks next) p next u v refl refl refl s.leads s.lowers))
 
 pub frame_lowers : {t : Tables} {u v : World} (ks js : List Frame) (now next : Next) (o : Outcome) (k : Frame) → now ≡ nexts.Finished o → ks ≡ k ∷ js → Steps t (after k o) (back_rank k o) u next v
-    → load_of (stack_after js next) v < load_of (stack_after ks now) u
+    → turn_load js next v < turn_load ks now u
 frame_lowers {t} {u} {v} ks js now next o k e f s =
-    rw (e, f) (gives_lowers (stack_at (k ∷ js) (pendings.Gives o)) (stack_after js next) js k o next u v refl refl refl refl (comes_still t s.leads) s.lowers)
+    turn_lowers ks js now next u v (rw (e, f) (gives_lowers (stack_at (k ∷ js) (pendings.Gives o)) (stack_after js next) js k o next u v refl refl refl refl (comes_still t s.leads) s.lowers))
 
 pub full_lowers : {u v : World} (ks : List Frame) (now next : Next) (e : Entry) (x : Continuation) → now ≡ nexts.Writes e x → next ≡ nexts.Finished (outcomes.Cut causes.Ticks) → Spent u v
-    → load_of (stack_after ks next) v < load_of (stack_after ks now) u
+    → turn_load ks next v < turn_load ks now u
 full_lowers {u} {v} ks now next e x i j k =
-    rw (i, j) (fills_lowers (stack_at ks (pendings.Writes e x)) (stack_at ks (pendings.Gives (outcomes.Cut causes.Ticks))) e x u v refl refl refl k)
+    turn_lowers ks ks now next u v (rw (i, j) (fills_lowers (stack_at ks (pendings.Writes e x)) (stack_at ks (pendings.Gives (outcomes.Cut causes.Ticks))) e x u v refl refl refl k))
 
 -- an entry, and what comes after it
 pub entry_lowers : {t : Tables} {w u v : World} (ks : List Frame) (now next : Next) (e : Entry) (x : Continuation) → now ≡ nexts.Writes e x → Written e w u → Follows t x u next v
-    → load_of (stack_after ks next) v < load_of (stack_after ks now) w
+    → turn_load ks next v < turn_load ks now w
 entry_lowers {t} {w} {u} {v} ks now next e x i k s =
-    rw i (
+    turn_lowers ks ks now next w v (rw i (
     let a = writes_lowers (stack_at ks (pendings.Writes e x)) (stack_at ks (pendings.Does (tasks.Continue x))) e x w u refl refl refl k in
     let b = does_lowers t nothing_legal (stack_at ks (pendings.Does (tasks.Continue x))) (stack_after ks next) (tasks.Continue x) next u v refl refl refl s.leads s.lowers in
-    omega (arith, a, b))
+    omega (arith, a, b)))

@@ -8,15 +8,17 @@ ghost use Rattle.cdi_frames.specs.Stacks.{program_of, KeepsMeaning, TurnsTo, Add
 ghost use Rattle.cdi_frames.specs.declared.stack.Pending.{Pending};
 ghost use Rattle.cdi_frames.specs.Hearing.{Noted, ToldIf, HearsTurn, HearsOutcome, HasFailedAt};
 
+use crate::passing::passes;
 use crate::resume::resume;
 use crate::stack::{Stack, Turn};
-use crate::step::{entries, step};
+use crate::step::{bodies, entries, start, step};
 use cdi_base::{Cause, Entry};
+use cdi_calls::references;
 use cdi_host::{Contents, Stack as Waiting, Tables};
 use cdi_machine::{Driver, Failure};
-use cdi_steps::Outcome;
 use cdi_steps::ends::cut;
-use cdi_steps::task::{Continuation, Frame, Next, Task};
+use cdi_steps::task::{Call, Continuation, Frame, Next, Task};
+use cdi_steps::{Outcome, chains};
 use std::alloc::AllocError;
 
 /// Writes an entry of which the driver is told, if the command may have one more. An error comes from the driver, or memory is
@@ -76,7 +78,8 @@ fn has_room<W: Contents>(world: &W, first: u64, most: u64) -> bool
 /// stack meant has run to this outcome. On an error, memory ran out or the driver gave nothing, and what was written is what
 /// such a run writes first. No turn writes more.
 ///
-/// What a step comes to stays where it is until the next one takes it: a stack that is handed on costs more than most steps.
+/// What a step comes to stays where it is until the next one takes it, and the steps of a call are picked here: a stack that is
+/// handed on costs more than most steps, and so does a function that picks among all of them.
 pub fn turn<T: Tables, D: Driver, W: Contents>(
     tables: &T,
     driver: &mut D,
@@ -107,13 +110,29 @@ pub fn turn<T: Tables, D: Driver, W: Contents>(
     let mut next = pending.ahead();
     'steps: loop {
         match next {
-            Next::Goes(task) => next = step(tables, driver, world, task)?,
+            Next::Goes(task) => match task {
+                Task::Start(call) => match call {
+                    Call::Rest(chain) => next = chains::rest(tables, world, chain)?,
+                    Call::Body(running) => next = bodies::begin(tables, world, running),
+                    Call::Acts(running) => next = bodies::act(tables, driver, world, running)?,
+                    call => next = start(tables, driver, world, call)?,
+                },
+                Task::Through(used) => next = references::through(tables, world, used)?,
+                task => next = step(tables, driver, world, task)?,
+            },
             Next::Needs(task, frame) => {
                 wait(&mut frames, frame)?;
-                next = step(tables, driver, world, task)?;
+                next = Next::Goes(task);
             }
             Next::Finished(outcome) => match frames.take() {
-                Some(frame) => next = resume(tables, world, frame, outcome)?,
+                Some(frame) => {
+                    if passes(tables, world, &frame, &outcome) {
+                        drop(frame);
+                        next = Next::Finished(outcome);
+                    } else {
+                        next = resume(tables, world, frame, outcome)?;
+                    }
+                }
                 None => return Ok(Turn::Finished(outcome)),
             },
             Next::Writes(entry, continuation) => {

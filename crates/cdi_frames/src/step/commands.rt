@@ -2,7 +2,7 @@
 ghost use Rattle.std.specs.Prelude.{◌≡◌, IfOk, OnErr};
 ghost use Rattle.cdi_machine.specs.World.{after_change};
 ghost use Rattle.cdi_machine.specs.World.Change.{Return};
-ghost use Rattle.cdi_steps.specs.Known.{IsResolved, KnownJob};
+ghost use Rattle.cdi_steps.specs.Known.{KnownJob, TellsRightly};
 ghost use Rattle.cdi_steps.specs.Steps.{Moves, GoesOn};
 ghost use Rattle.cdi_steps.specs.declared.task.Outcome.{Outcome};
 
@@ -127,7 +127,7 @@ fn use_bean<T: Tables, W: Contents>(
     request: Option<Text>,
     used: Box<BeanUse>,
 ) -> Result<Next, AllocError>
-    requires { IsResolved (T.tables _tables.now) used.value }
+    requires { TellsRightly (T.tables _tables.now) used.value }
     ensures step { IfOk result (λ next. Moves (T.tables _tables.now)
         (Task.Begin (Job.Use request used)) (W.world world.old) next (W.world world.new)) }
     ensures kept { OnErr result (W.world world.new ≡ W.world world.old) }

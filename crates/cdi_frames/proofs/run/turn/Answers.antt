@@ -1,9 +1,12 @@
-use Rattle.std.proofs.Common.{rules, refl}
+use Rattle.std.proofs.Common.{◌∙◌, rules, refl}
 use Rattle.cdi_steps.proofs.Driving.{narrows_self, narrows_trans, still_drives, passed_on, starves_alone}
+use Rattle.cdi_steps.proofs.Made.{driven}
+use Rattle.cdi_steps.specs.declared.task.Call.TheVariants as calls
+use Rattle.cdi_steps.specs.declared.task.Task.TheVariants as tasks
 use Rattle.cdi_frames.specs.Stacks.{Steps}
 use Rattle.cdi_frames.proofs.Loads.{grown_same}
 use Rattle.cdi_frames.proofs.Hearing.{hears_here}
-use Rattle.cdi_frames.proofs.Turning.{goes_done, needs_done, frame_done, entry_done, entry_full, follows_done, over_turned, over_hears, fails_turned, fails_failed, goes_lowers, needs_lowers, frame_lowers, entry_lowers, full_lowers}
+use Rattle.cdi_frames.proofs.Turning.{task_is, call_is, goes_done, goes_moves, needs_done, frame_done, entry_done, entry_full, follows_done, over_turned, over_hears, fails_turned, fails_failed, goes_lowers, needs_lowers, frame_lowers, entry_lowers, full_lowers}
 use Rattle.cdi_frames.proofs.run.turn.Goals as goal
 
 pub steps-init : goal.steps-init
@@ -20,21 +23,98 @@ steps-init g c = record {
 
 -- ---- a task
 
-pub returns-in_err-next-in-Goes-clause-turned : goal.returns-in_err-next-in-Goes-clause-turned
-returns-in_err-next-in-Goes-clause-turned g c = fails_turned c.steps.invariant.here _ c.in_err-next-in-Goes.ensures.kept c.from_residual.result (search rules)
+pub returns-in_err-next-in-Rest-clause-turned : goal.returns-in_err-next-in-Rest-clause-turned
+returns-in_err-next-in-Rest-clause-turned g c = fails_turned c.steps.invariant.here _ c.in_err-next-in-Rest.ensures.kept c.from_residual.result (search rules)
 
-pub returns-in_err-next-in-Goes-clause-failed : goal.returns-in_err-next-in-Goes-clause-failed
-returns-in_err-next-in-Goes-clause-failed g c = passed_on _ c.from_residual.result (fails_failed c.steps.invariant.here _ c.in_err-next-in-Goes.ensures.kept c.in_err-next-in-Goes.ensures.failed c.steps.invariant.narrows.may_end) c.from_residual.ensures
+pub returns-in_err-next-in-Rest-clause-failed : goal.returns-in_err-next-in-Rest-clause-failed
+returns-in_err-next-in-Rest-clause-failed g c = passed_on _ c.from_residual.result (fails_failed c.steps.invariant.here _ c.in_err-next-in-Rest.ensures.kept starves_alone c.steps.invariant.narrows.may_end) c.from_residual.ensures
 
-pub steps-preserved-in-Goes : goal.steps-preserved-in-Goes
-steps-preserved-in-Goes g c = record {
-  narrows = narrows_trans c.steps.invariant.narrows c.in_ok-next-in-Goes.ensures.narrows;
-  here = goes_done c.steps.invariant.narrows.legal c.steps.frames c.steps.next _ c.in-Goes.task _ c.in-Goes.is c.steps.invariant.here c.in_ok-next-in-Goes.ensures.step c.in_ok-next-in-Goes.ensures.asked;
+pub steps-preserved-in-Rest : goal.steps-preserved-in-Rest
+steps-preserved-in-Rest g c = record {
+  narrows = c.steps.invariant.narrows;
+  here = goes_moves c.steps.invariant.narrows.legal c.steps.frames c.steps.next _ (tasks.Start (calls.Rest c.in-Rest.chain)) _ (call_is c.in-Goes.is c.in-Start.is c.in-Rest.is) c.steps.invariant.here c.in_ok-next-in-Rest.ensures.step;
   first = c.steps.invariant.first;
 }
 
-pub steps-smaller-in-Goes : goal.steps-smaller-in-Goes
-steps-smaller-in-Goes g c = goes_lowers c.steps.frames c.steps.next _ c.in-Goes.task c.in-Goes.is c.in_ok-next-in-Goes.ensures.step
+pub steps-smaller-in-Rest : goal.steps-smaller-in-Rest
+steps-smaller-in-Rest g c = goes_lowers c.steps.frames c.steps.next _ (tasks.Start (calls.Rest c.in-Rest.chain)) (call_is c.in-Goes.is c.in-Start.is c.in-Rest.is) (driven (g.D.Driver.legal c.args.driver.now) c.in_ok-next-in-Rest.ensures.step)
+
+pub steps-preserved-in-Body : goal.steps-preserved-in-Body
+steps-preserved-in-Body g c = record {
+  narrows = c.steps.invariant.narrows;
+  here = goes_moves c.steps.invariant.narrows.legal c.steps.frames c.steps.next _ (tasks.Start (calls.Body c.in-Body.running)) _ (call_is c.in-Goes.is c.in-Start.is c.in-Body.is) c.steps.invariant.here c.begin-next.ensures;
+  first = c.steps.invariant.first;
+}
+
+pub steps-smaller-in-Body : goal.steps-smaller-in-Body
+steps-smaller-in-Body g c = goes_lowers c.steps.frames c.steps.next _ (tasks.Start (calls.Body c.in-Body.running)) (call_is c.in-Goes.is c.in-Start.is c.in-Body.is) (driven (g.D.Driver.legal c.args.driver.now) c.begin-next.ensures)
+
+pub act-requires-clause-drives : goal.act-requires-clause-drives
+act-requires-clause-drives g c = still_drives c.steps.invariant.narrows c.requires.drives
+
+pub returns-in_err-next-in-Acts-clause-turned : goal.returns-in_err-next-in-Acts-clause-turned
+returns-in_err-next-in-Acts-clause-turned g c = fails_turned c.steps.invariant.here _ refl c.from_residual-in_err-next-in-Acts.result (search rules)
+
+pub returns-in_err-next-in-Acts-clause-failed : goal.returns-in_err-next-in-Acts-clause-failed
+returns-in_err-next-in-Acts-clause-failed g c = passed_on _ c.from_residual-in_err-next-in-Acts.result (fails_failed c.steps.invariant.here _ refl c.in_err-next-in-Acts.ensures.failed c.steps.invariant.narrows.may_end) c.from_residual-in_err-next-in-Acts.ensures
+
+pub steps-preserved-in-Acts : goal.steps-preserved-in-Acts
+steps-preserved-in-Acts g c = record {
+  narrows = narrows_trans c.steps.invariant.narrows c.in_ok-next-in-Acts.ensures.narrows;
+  here = goes_done c.steps.invariant.narrows.legal c.steps.frames c.steps.next _ (tasks.Start (calls.Acts c.in-Acts.running)) _ (call_is c.in-Goes.is c.in-Start.is c.in-Acts.is) c.steps.invariant.here c.in_ok-next-in-Acts.ensures.step c.in_ok-next-in-Acts.ensures.asked;
+  first = c.steps.invariant.first;
+}
+
+pub steps-smaller-in-Acts : goal.steps-smaller-in-Acts
+steps-smaller-in-Acts g c = goes_lowers c.steps.frames c.steps.next _ (tasks.Start (calls.Acts c.in-Acts.running)) (call_is c.in-Goes.is c.in-Start.is c.in-Acts.is) c.in_ok-next-in-Acts.ensures.step
+
+pub returns-in_err-next-in_default-call-clause-turned : goal.returns-in_err-next-in_default-call-clause-turned
+returns-in_err-next-in_default-call-clause-turned g c = fails_turned c.steps.invariant.here _ c.in_err-next-in_default-call.ensures.kept c.from_residual-in_err-next-in_default-call.result (search rules)
+
+pub returns-in_err-next-in_default-call-clause-failed : goal.returns-in_err-next-in_default-call-clause-failed
+returns-in_err-next-in_default-call-clause-failed g c = passed_on _ c.from_residual-in_err-next-in_default-call.result (fails_failed c.steps.invariant.here _ c.in_err-next-in_default-call.ensures.kept c.in_err-next-in_default-call.ensures.failed c.steps.invariant.narrows.may_end) c.from_residual-in_err-next-in_default-call.ensures
+
+pub steps-preserved-in_default-call : goal.steps-preserved-in_default-call
+steps-preserved-in_default-call g c = record {
+  narrows = narrows_trans c.steps.invariant.narrows c.in_ok-next-in_default-call.ensures.narrows;
+  here = goes_done c.steps.invariant.narrows.legal c.steps.frames c.steps.next _ (tasks.Start c.in-Start.call) _ (call_is c.in-Goes.is c.in-Start.is refl) c.steps.invariant.here c.in_ok-next-in_default-call.ensures.step c.in_ok-next-in_default-call.ensures.asked;
+  first = c.steps.invariant.first;
+}
+
+pub steps-smaller-in_default-call : goal.steps-smaller-in_default-call
+steps-smaller-in_default-call g c = goes_lowers c.steps.frames c.steps.next _ (tasks.Start c.in-Start.call) (call_is c.in-Goes.is c.in-Start.is refl) c.in_ok-next-in_default-call.ensures.step
+
+pub returns-in_err-next-in-Through-clause-turned : goal.returns-in_err-next-in-Through-clause-turned
+returns-in_err-next-in-Through-clause-turned g c = fails_turned c.steps.invariant.here _ c.in_err-next-in-Through.ensures.kept c.from_residual-in_err-next-in-Through.result (search rules)
+
+pub returns-in_err-next-in-Through-clause-failed : goal.returns-in_err-next-in-Through-clause-failed
+returns-in_err-next-in-Through-clause-failed g c = passed_on _ c.from_residual-in_err-next-in-Through.result (fails_failed c.steps.invariant.here _ c.in_err-next-in-Through.ensures.kept starves_alone c.steps.invariant.narrows.may_end) c.from_residual-in_err-next-in-Through.ensures
+
+pub steps-preserved-in-Through : goal.steps-preserved-in-Through
+steps-preserved-in-Through g c = record {
+  narrows = c.steps.invariant.narrows;
+  here = goes_moves c.steps.invariant.narrows.legal c.steps.frames c.steps.next _ (tasks.Through c.in-Through.used) _ (task_is c.in-Goes.is c.in-Through.is) c.steps.invariant.here c.in_ok-next-in-Through.ensures.step;
+  first = c.steps.invariant.first;
+}
+
+pub steps-smaller-in-Through : goal.steps-smaller-in-Through
+steps-smaller-in-Through g c = goes_lowers c.steps.frames c.steps.next _ (tasks.Through c.in-Through.used) (task_is c.in-Goes.is c.in-Through.is) (driven (g.D.Driver.legal c.args.driver.now) c.in_ok-next-in-Through.ensures.step)
+
+pub returns-in_err-next-in_default-clause-turned : goal.returns-in_err-next-in_default-clause-turned
+returns-in_err-next-in_default-clause-turned g c = fails_turned c.steps.invariant.here _ c.in_err-next-in_default.ensures.kept c.from_residual-in_err-next-in_default.result (search rules)
+
+pub returns-in_err-next-in_default-clause-failed : goal.returns-in_err-next-in_default-clause-failed
+returns-in_err-next-in_default-clause-failed g c = passed_on _ c.from_residual-in_err-next-in_default.result (fails_failed c.steps.invariant.here _ c.in_err-next-in_default.ensures.kept c.in_err-next-in_default.ensures.failed c.steps.invariant.narrows.may_end) c.from_residual-in_err-next-in_default.ensures
+
+pub steps-preserved-in_default : goal.steps-preserved-in_default
+steps-preserved-in_default g c = record {
+  narrows = narrows_trans c.steps.invariant.narrows c.in_ok-next-in_default.ensures.narrows;
+  here = goes_done c.steps.invariant.narrows.legal c.steps.frames c.steps.next _ c.in-Goes.task _ c.in-Goes.is c.steps.invariant.here c.in_ok-next-in_default.ensures.step c.in_ok-next-in_default.ensures.asked;
+  first = c.steps.invariant.first;
+}
+
+pub steps-smaller-in_default : goal.steps-smaller-in_default
+steps-smaller-in_default g c = goes_lowers c.steps.frames c.steps.next _ c.in-Goes.task c.in-Goes.is c.in_ok-next-in_default.ensures.step
 
 -- ---- a task for whose outcome a frame waits
 
@@ -44,24 +124,15 @@ returns-in_err-wait-in-Needs-clause-turned g c = fails_turned c.steps.invariant.
 pub returns-in_err-wait-in-Needs-clause-failed : goal.returns-in_err-wait-in-Needs-clause-failed
 returns-in_err-wait-in-Needs-clause-failed g c = passed_on _ c.from_residual-in_err-wait-in-Needs.result (fails_failed c.steps.invariant.here _ refl starves_alone c.steps.invariant.narrows.may_end) c.from_residual-in_err-wait-in-Needs.ensures
 
-pub step-requires-in-Needs-clause-drives : goal.step-requires-in-Needs-clause-drives
-step-requires-in-Needs-clause-drives g c = still_drives c.steps.invariant.narrows c.requires.drives
-
-pub returns-in_err-next-in-Needs-clause-turned : goal.returns-in_err-next-in-Needs-clause-turned
-returns-in_err-next-in-Needs-clause-turned g c = fails_turned c.steps.invariant.here _ c.in_err-next-in-Needs.ensures.kept c.from_residual-in_err-next-in-Needs.result (search rules)
-
-pub returns-in_err-next-in-Needs-clause-failed : goal.returns-in_err-next-in-Needs-clause-failed
-returns-in_err-next-in-Needs-clause-failed g c = passed_on _ c.from_residual-in_err-next-in-Needs.result (fails_failed c.steps.invariant.here _ c.in_err-next-in-Needs.ensures.kept c.in_err-next-in-Needs.ensures.failed c.steps.invariant.narrows.may_end) c.from_residual-in_err-next-in-Needs.ensures
-
 pub steps-preserved-in-Needs : goal.steps-preserved-in-Needs
 steps-preserved-in-Needs g c = record {
-  narrows = narrows_trans c.steps.invariant.narrows c.in_ok-next-in-Needs.ensures.narrows;
-  here = needs_done c.steps.invariant.narrows.legal c.steps.frames c.wait.new.frames c.steps.next _ c.in-Needs.task c.in-Needs.frame _ c.in-Needs.is c.in_ok-wait-in-Needs.ensures.ok c.steps.invariant.here c.in_ok-next-in-Needs.ensures.step c.in_ok-next-in-Needs.ensures.asked;
+  narrows = c.steps.invariant.narrows;
+  here = needs_done c.steps.invariant.narrows.legal c.steps.frames c.wait.new.frames c.steps.next c.in-Needs.task c.in-Needs.frame c.in-Needs.is c.in_ok-wait-in-Needs.ensures.ok c.steps.invariant.here;
   first = c.steps.invariant.first;
 }
 
 pub steps-smaller-in-Needs : goal.steps-smaller-in-Needs
-steps-smaller-in-Needs g c = needs_lowers c.steps.frames c.wait.new.frames c.steps.next _ c.in-Needs.task c.in-Needs.frame c.in-Needs.is c.in_ok-wait-in-Needs.ensures.ok c.in_ok-next-in-Needs.ensures.step
+steps-smaller-in-Needs g c = needs_lowers c.steps.frames c.wait.new.frames c.steps.next c.in-Needs.task c.in-Needs.frame (g.W.Contents.world c.steps.world) c.in-Needs.is c.in_ok-wait-in-Needs.ensures.ok
 
 -- ---- a frame
 
@@ -72,20 +143,30 @@ pub returns-in-None-clause-hears : goal.returns-in-None-clause-hears
 returns-in-None-clause-hears g c = over_hears c.steps.frames c.steps.next c.in-Finished.outcome c.in-Finished.is c.steps.invariant.here
 
 pub returns-in_err-next-in-Some-clause-turned : goal.returns-in_err-next-in-Some-clause-turned
-returns-in_err-next-in-Some-clause-turned g c = fails_turned c.steps.invariant.here _ c.in_err-next-in-Some.ensures.kept c.from_residual-in_err-next-in-Some.result (search rules)
+returns-in_err-next-in-Some-clause-turned g c = fails_turned c.steps.invariant.here _ (c.in_err-next-in-Some.ensures.kept ∙ c.passes.ensures.kept c.if-passes.false) c.from_residual-in_err-next-in-Some.result (search rules)
 
 pub returns-in_err-next-in-Some-clause-failed : goal.returns-in_err-next-in-Some-clause-failed
-returns-in_err-next-in-Some-clause-failed g c = passed_on _ c.from_residual-in_err-next-in-Some.result (fails_failed c.steps.invariant.here _ c.in_err-next-in-Some.ensures.kept starves_alone c.steps.invariant.narrows.may_end) c.from_residual-in_err-next-in-Some.ensures
+returns-in_err-next-in-Some-clause-failed g c = passed_on _ c.from_residual-in_err-next-in-Some.result (fails_failed c.steps.invariant.here _ (c.in_err-next-in-Some.ensures.kept ∙ c.passes.ensures.kept c.if-passes.false) starves_alone c.steps.invariant.narrows.may_end) c.from_residual-in_err-next-in-Some.ensures
 
-pub steps-preserved-in-Some : goal.steps-preserved-in-Some
-steps-preserved-in-Some g c = record {
+pub steps-preserved-else-passes : goal.steps-preserved-else-passes
+steps-preserved-else-passes g c = record {
   narrows = c.steps.invariant.narrows;
-  here = frame_done c.steps.invariant.narrows.legal c.steps.frames c.take.new.self c.steps.next _ c.in-Finished.outcome c.in-Some.frame _ c.in-Finished.is c.in-Some.ensures c.steps.invariant.here c.in_ok-next-in-Some.ensures.step c.in_ok-next-in-Some.ensures.cut;
+  here = frame_done c.steps.invariant.narrows.legal c.steps.frames c.take.new.self c.steps.next _ c.in-Finished.outcome c.in-Some.frame _ c.in-Finished.is c.in-Some.ensures c.steps.invariant.here (rw (c.passes.ensures.kept c.if-passes.false) at c.in_ok-next-in-Some.ensures.step) (rw (c.passes.ensures.kept c.if-passes.false) at c.in_ok-next-in-Some.ensures.cut);
   first = c.steps.invariant.first;
 }
 
-pub steps-smaller-in-Some : goal.steps-smaller-in-Some
-steps-smaller-in-Some g c = frame_lowers c.steps.frames c.take.new.self c.steps.next _ c.in-Finished.outcome c.in-Some.frame c.in-Finished.is c.in-Some.ensures c.in_ok-next-in-Some.ensures.step
+pub steps-smaller-else-passes : goal.steps-smaller-else-passes
+steps-smaller-else-passes g c = frame_lowers c.steps.frames c.take.new.self c.steps.next _ c.in-Finished.outcome c.in-Some.frame c.in-Finished.is c.in-Some.ensures (rw (c.passes.ensures.kept c.if-passes.false) at c.in_ok-next-in-Some.ensures.step)
+
+pub steps-preserved-then-passes : goal.steps-preserved-then-passes
+steps-preserved-then-passes g c = record {
+  narrows = c.steps.invariant.narrows;
+  here = frame_done c.steps.invariant.narrows.legal c.steps.frames c.take.new.self c.steps.next _ c.in-Finished.outcome c.in-Some.frame _ c.in-Finished.is c.in-Some.ensures c.steps.invariant.here (c.passes.ensures.step c.if-passes.true) (c.passes.ensures.cut c.if-passes.true);
+  first = c.steps.invariant.first;
+}
+
+pub steps-smaller-then-passes : goal.steps-smaller-then-passes
+steps-smaller-then-passes g c = frame_lowers c.steps.frames c.take.new.self c.steps.next _ c.in-Finished.outcome c.in-Some.frame c.in-Finished.is c.in-Some.ensures (c.passes.ensures.step c.if-passes.true)
 
 -- ---- an entry
 

@@ -1,8 +1,7 @@
 use Rattle.std.proofs.Common.{◌≡◌, length}
 use Rattle.cdi_steps.specs.Driving.{Narrows}
-use Rattle.cdi_frames.specs.Loads.{load_of}
 use Rattle.cdi_frames.specs.Stacks.{stack_after}
-use Rattle.cdi_frames.proofs.Turning.{IsUnderWay}
+use Rattle.cdi_frames.proofs.Turning.{IsUnderWay, turn_load}
 use Rattle.cdi_frames.proofs.run.turn.Given as goal
 
 abbrev pub invariant-steps : goal.invariant-steps
@@ -13,4 +12,4 @@ invariant-steps g l = record {
 }
 
 abbrev pub decreases-steps : goal.decreases-steps
-decreases-steps g l = load_of (stack_after l.frames l.next) (g.W.Contents.world l.world)
+decreases-steps g l = turn_load l.frames l.next (g.W.Contents.world l.world)
