@@ -1,10 +1,5 @@
--- A `BTreeMap` with numbers as keys does what is done with a map as a list of pairs.
-use Rattle.std.proofs.Common.{◌≡◌, ◌≢◌, ℕ, ◌<◌, ◌==◌, Bool, true, false, [], ◌∷◌, ◌++◌, cond, Some, not, ◌⊎◌, inl, inr, refl, sym, ap, arith, eq-eqb}
-use Rattle.std.specs.Cmp.{unsigned_tied, nat_cmp_is}
-use Rattle.std.specs.Ordering.{nat_cmp}
-use Rattle.std.specs.declared.cmp.Ordering.TheVariants.{Greater}
-use Rattle.std.specs.BTreeMap.{is_at, insert_entry}
-use Rattle.std.specs.Map.{lookup, remove_entry}
+-- Maps by numbers: what holds of each entry, numbers that rise and slots that differ.
+use Rattle.std.proofs.Common.{◌≡◌, ◌≢◌, ℕ, ◌<◌, ◌==◌, Bool, true, false, [], ◌∷◌, ◌++◌, cond, Some, not, ◌⊎◌, inl, inr, refl, sym, arith, eq-eqb}
 use Rattle.std.specs.List.{AllByRecursion}
 use Rattle.std.proofs.lemmas.Map.Views.{exact_unsigned_eq}
 use Rattle.cdi_base.specs.Maps.{Map, at, without}
@@ -19,14 +14,6 @@ pub equal_or_not : (m n : ℕ) → (((m == n) ≡ true) × (m ≡ n)) ⊎ (((m =
 equal_or_not m n = tested (m == n) m n refl
 
 module _ {X : Type 0} where
-  pub lookup-at : (m : Map X) (n : ℕ) → lookup (is_at (nat_cmp n)) m ≡ at m n
-  lookup-at [] n = refl
-  lookup-at (p ∷ more) n = rw (unsigned_tied n p.0) (ap (cond (n == p.0) (Some p.1)) (lookup-at more n))
-
-  pub insert_entry-last : (m : Map X) (n : ℕ) (x : X) → AllByRecursion (λ p. p.0 < n) m → insert_entry nat_cmp m n x ≡ m ++ (n, x) ∷ []
-  insert_entry-last [] n x h = refl
-  insert_entry-last (p ∷ more) n x h = rw (← nat_cmp_is n p.0 Greater h.0) (ap (λ r. p ∷ r) (insert_entry-last more n x h.1))
-
   pub at-last : (m : Map X) (n : ℕ) (x : X) → AllByRecursion (λ p. p.0 < n) m → at (m ++ (n, x) ∷ []) n ≡ Some x
   at-last [] n x h = rw (eq-eqb n n refl) refl
   at-last (p ∷ more) n x h = elim (equal_or_not n p.0) [
@@ -62,22 +49,6 @@ module _ {X : Type 0} where
   pub All-without : (P : ℕ × X → Type 0) (m : Map X) (n : ℕ) → AllByRecursion P m → AllByRecursion P (without n m)
   All-without P [] n h = h
   All-without P (p ∷ more) n h = All-chosen P (not (n == p.0)) p (without n more) h.0 (All-without P more n h.1)
-
-  -- ---- an entry that goes
-
-  pub without-absent : (m : Map X) (n : ℕ) → AllByRecursion (λ p. n < p.0) m → without n m ≡ m
-  without-absent [] n h = refl
-  without-absent (p ∷ more) n h = elim (equal_or_not n p.0) [
-    | inl s ↦ absurd (let below = h.0 in omega (arith, s.1))
-    | inr s ↦ rw s.0 (ap (λ r. p ∷ r) (without-absent more n h.1))
-  ]
-
-pub remove_entry-without : (m : Map ℕ) (n : ℕ) → AreRising m → remove_entry (is_at (nat_cmp n)) m ≡ without n m
-remove_entry-without [] n h = refl
-remove_entry-without (p ∷ more) n h = elim (equal_or_not n p.0) [
-  | inl s ↦ rw (unsigned_tied n p.0, s.0) (sym (without-absent more n (rw s.1 h.0)))
-  | inr s ↦ rw (unsigned_tied n p.0, s.0) (ap (λ r. p ∷ r) (remove_entry-without more n h.1))
-]
 
 -- ---- numbers that rise and slots that differ
 

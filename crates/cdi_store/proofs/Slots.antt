@@ -1,8 +1,6 @@
 -- The instances in the slots of a map's numbers, and what a change of one slot is to them.
 use Rattle.std.proofs.Common.{◌≡◌, ◌≢◌, ℕ, ◌+◌, ◌<◌, ◌^◌, ◌==◌, Bool, true, false, [], ◌∷◌, ◌++◌, cond, length, map, Option, Some, None, IsSome, is_some, not, inl, inr, refl, sym, ap, ◌∙◌, arith}
 use Rattle.std.specs.Option.{option_map}
-use Rattle.std.specs.Ordering.{nat_cmp}
-use Rattle.std.specs.BTreeMap.{insert_entry}
 use Rattle.slab.specs.Slab.{Slab, get, Updates, SameValues}
 use Rattle.std.specs.List.{AllByRecursion}
 use Rattle.std.proofs.lemmas.Map.Views.{exact_unsigned_eq}
@@ -10,8 +8,8 @@ use Rattle.cdi_base.specs.Maps.{Map, at, adjusted, without}
 use Rattle.cdi_store.specs.declared.instance.Instance.{Instance}
 use Rattle.cdi_store.specs.declared.key.Key.{Key}
 use Rattle.cdi_store.specs.Live.{Instances, Kept, is_slot, is_live}
-use Rattle.cdi_store.specs.Slots.{Slots, slot_at, preceded, instances_in, kept_in, AreApart, AreBelow, AreOccupied, IsSound, Changes}
-use Rattle.cdi_store.proofs.Numbers.{equal_or_not, insert_entry-last, All-at, All-weaker, All-both, All-last, All-without, rising-last, apart-last, rising-without, apart-without, slot-without}
+use Rattle.cdi_store.specs.Slots.{Slots, slot_at, preceded, instances_in, kept_in, AreApart, AreOccupied, IsSound, Changes}
+use Rattle.cdi_store.proofs.Numbers.{equal_or_not, All-at, All-weaker, All-both, All-last, All-without, rising-last, apart-last, rising-without, apart-without, slot-without}
 
 -- ---- what lies in the slots
 
@@ -199,9 +197,9 @@ pub record Taking (old new : Slots) (m m' : Map ℕ) (n slot : ℕ) (o : Instanc
   pub taken : slot_at new slot ≡ Some o
   pub others : Others old new slot
 
-pub taking : (old between new : Slab Instance) (m m' : Map ℕ) (number n key slot : ℕ) (o : Instance) → between.slots ≡ old.slots → m' ≡ insert_entry nat_cmp m number key → number ≡ n → key ≡ slot → AreBelow n m → get between slot ≡ None → Updates between new slot (Some o) → Taking old.slots new.slots m m' n slot o
-taking old between new m m' number n key slot o same put number-is key-is below vacant updates = record {
-  entries = put ∙ rw (number-is, key-is) (insert_entry-last m n slot below);
+pub taking : (old between new : Slab Instance) (m m' : Map ℕ) (number n key slot : ℕ) (o : Instance) → between.slots ≡ old.slots → m' ≡ m ++ (number, key) ∷ [] → number ≡ n → key ≡ slot → get between slot ≡ None → Updates between new slot (Some o) → Taking old.slots new.slots m m' n slot o
+taking old between new m m' number n key slot o same put number-is key-is vacant updates = record {
+  entries = put ∙ rw (number-is, key-is) refl;
   vacant = sym (ap (λ s. slot_at s slot) same) ∙ vacant;
   taken = updates.changed;
   others = λ other differs. updates.others other differs ∙ ap (λ s. slot_at s other) same;

@@ -1,4 +1,5 @@
 pub mod Live
 pub mod NameIndex
+pub mod NumberEntries
 pub mod Owned
 pub mod Slots

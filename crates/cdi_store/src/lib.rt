@@ -7,6 +7,7 @@ pub mod errors;
 pub mod instance;
 pub mod key;
 pub mod name_index;
+mod number_index;
 pub mod numbered;
 pub mod references;
 pub mod store;

@@ -16,11 +16,11 @@ use crate::changes::{
 use crate::errors::{ChangeError, MakeError, Stale};
 use crate::instance::{Component, Instance, Owner, Phase};
 use crate::key::Key;
+use crate::number_index::NumberIndex;
 use crate::references::{Reference, References};
 use cdi_base::{Fields, Name, Seq, Value};
 use slab::Slab;
 use std::alloc::{AllocError, Global};
-use std::collections::BTreeMap;
 use std::marker::Model;
 
 /// The live instances of a container, each under a number of its own and in a slot, which contracts see as the
@@ -29,7 +29,7 @@ use std::marker::Model;
 #[derive(Drop)]
 pub struct Store {
     /// The slot of each live instance.
-    numbers: BTreeMap<u32, usize>,
+    numbers: NumberIndex,
     slots: Slab<Instance>,
     /// The number of the next instance; past the greatest `u32`, no number is left.
     next: u64,
@@ -43,9 +43,9 @@ impl Model for Store {
 
     ghost use Rattle.cdi_store.specs.Slots.{kept_in, IsKept};
 
-    ghost view = { λ s. kept_in s.slots.slots s.numbers.entries s.next };
+    ghost view = { λ s. kept_in s.slots.slots s.numbers s.next };
 
-    ghost invariant = { λ s. IsKept s.slots.slots s.numbers.entries s.next };
+    ghost invariant = { λ s. IsKept s.slots.slots s.numbers s.next };
 }
 
 impl Store {
@@ -62,7 +62,7 @@ impl Store {
         ensures { result ≡ record { instances = []; slots = []; next = number } }
     {
         Store {
-            numbers: BTreeMap::new(alloc),
+            numbers: NumberIndex::new(alloc),
             slots: Slab::new(alloc),
             next: u64::from(number),
             alloc,
@@ -99,7 +99,7 @@ impl Store {
         ensures key { result ≡ key_at self.now number }
         ensures live { IsSome result ↔ IsSome (at self.now.instances number) }
     {
-        let slot = *self.numbers.get(&number)?;
+        let slot = self.numbers.get(number)?;
         Some(Key { slot, number })
     }
 
@@ -107,8 +107,8 @@ impl Store {
     fn is_live(&self, key: Key) -> bool
         ensures { result ≡ is_live self.now key }
     {
-        match self.numbers.get(&key.number) {
-            Some(slot) => *slot == key.slot,
+        match self.numbers.get(key.number) {
+            Some(slot) => slot == key.slot,
             None => false,
         }
     }
@@ -136,7 +136,7 @@ impl Store {
             return Err(MakeError::NumbersOut);
         };
         self.slots.reserve(1)?;
-        self.numbers.insert(number, self.slots.vacant_key())?;
+        self.numbers.push(number, self.slots.vacant_key())?;
         let slot = self.slots.insert_reserved(Instance {
             component,
             owner,
@@ -166,7 +166,7 @@ impl Store {
     pub(crate) fn with_number(&self, number: u32) -> Option<&Instance>
         ensures { option_copied result ≡ at self.now.instances number }
     {
-        let slot = *self.numbers.get(&number)?;
+        let slot = self.numbers.get(number)?;
         self.slots.get(slot)
     }
 
@@ -215,7 +215,7 @@ impl Store {
         if !self.is_live(key) {
             return Err(Stale);
         }
-        self.numbers.remove(&key.number);
+        self.numbers.remove(key.number);
         Ok(self.slots.remove(key.slot))
     }
 
@@ -345,7 +345,7 @@ impl Store {
     pub fn numbers(&self, alloc: Global) -> Result<Vec<u32>, AllocError>
         ensures { IfOk result (λ numbers. numbers.items ≡ map (λ p. p.0) self.now.instances) }
     {
-        self.numbers.keys().copied().collect(alloc)
+        self.numbers.numbers(alloc)
     }
 
     /// The numbers of the live instances rise and are below the next one, and no two instances have one slot. A call does

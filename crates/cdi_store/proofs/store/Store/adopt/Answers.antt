@@ -7,7 +7,7 @@ use Rattle.cdi_store.proofs.store.Store.adopt.Goals as goal
 pub invariant_of-self-2 : goal.invariant_of-self-2
 invariant_of-self-2 c =
     let s = c.self.inside in
-    let m = s.numbers.entries in
+    let m = s.numbers in
     let now = c.args.self.now in
     let live = slot_of_live s.slots.slots m s.next in
     let a : Adopting s.slots c.put_dependent_last_in.new.slots c.set_owner_in.new.slots m c.args.owner c.args.key = record {
@@ -21,7 +21,7 @@ invariant_of-self-2 c =
 pub returns-clause-ok : goal.returns-clause-ok
 returns-clause-ok c =
     let s = c.self.inside in
-    let m = s.numbers.entries in
+    let m = s.numbers in
     let now = c.args.self.now in
     let live = slot_of_live s.slots.slots m s.next in
     let a : Adopting s.slots c.put_dependent_last_in.new.slots c.set_owner_in.new.slots m c.args.owner c.args.key = record {

@@ -12,12 +12,12 @@ returns-in-None-clause-ok c =
 
 pub invariant_of-self : goal.invariant_of-self
 invariant_of-self c =
-    same-kept c.self.inside.slots c.put_dependent_last_in.new.slots c.self.inside.numbers.entries c.self.inside.next c.in_err-put_dependent_last_in-in-Some.ensures.err c.self.invariant
+    same-kept c.self.inside.slots c.put_dependent_last_in.new.slots c.self.inside.numbers c.self.inside.next c.in_err-put_dependent_last_in-in-Some.ensures.err c.self.invariant
 
 pub invariant_of-self-in-Some : goal.invariant_of-self-in-Some
 invariant_of-self-in-Some c =
     let s = c.self.inside in
-    let m = s.numbers.entries in
+    let m = s.numbers in
     let n = c.args.key.number in
     let e = slot_of_live s.slots.slots m s.next c.in-Some.owner c.args.self.now c.self.view_is (sym (rw c.in-Some.is at c.in_ok-owner.ensures.owner_lives)) in
     let there = slot_of_live s.slots.slots m s.next c.args.key c.args.self.now c.self.view_is (sym (c.in_ok-owner.ensures.live.0 refl)) in
@@ -27,7 +27,7 @@ invariant_of-self-in-Some c =
 pub returns-in_ok-put_dependent_last_in-in-Some-clause-ok : goal.returns-in_ok-put_dependent_last_in-in-Some-clause-ok
 returns-in_ok-put_dependent_last_in-in-Some-clause-ok c =
     let s = c.self.inside in
-    let m = s.numbers.entries in
+    let m = s.numbers in
     let e = slot_of_live s.slots.slots m s.next c.in-Some.owner c.args.self.now c.self.view_is (sym (rw c.in-Some.is at c.in_ok-owner.ensures.owner_lives)) in
     let is = rw c.in-Some.is at c.in_ok-owner.ensures.number in
     rw (joins-owner c.args.key.number c.in-Some.owner.number c.args.self.now.instances is)

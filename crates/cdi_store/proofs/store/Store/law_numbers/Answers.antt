@@ -6,7 +6,7 @@ use Rattle.cdi_store.proofs.store.Store.law_numbers.Goals as goal
 pub returns : goal.returns
 returns c =
     let s = c.self.inside in
-    let m = s.numbers.entries in
+    let m = s.numbers in
     let sound = c.self.invariant.sound in
     subst IsOrderly c.self.view_is (record {
       rising = sound.rising;

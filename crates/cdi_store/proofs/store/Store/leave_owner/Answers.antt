@@ -7,7 +7,7 @@ use Rattle.cdi_store.proofs.store.Store.leave_owner.Goals as goal
 pub invariant_of-self : goal.invariant_of-self
 invariant_of-self c =
     let s = c.self.inside in
-    let m = s.numbers.entries in
+    let m = s.numbers in
     let n = c.args.key.number in
     let o = c.in_ok-owner.owner in
     let e = slots-of-live s.slots.slots m s.next c.args.self.now o c.self.view_is c.in_ok-owner.ensures.owner_lives in
@@ -18,7 +18,7 @@ invariant_of-self c =
 pub returns-clause-ok : goal.returns-clause-ok
 returns-clause-ok c =
     let s = c.self.inside in
-    let m = s.numbers.entries in
+    let m = s.numbers in
     let o = c.in_ok-owner.owner in
     let e = slots-of-live s.slots.slots m s.next c.args.self.now o c.self.view_is c.in_ok-owner.ensures.owner_lives in
     left-view s.slots c.remove_dependent_from.new.slots m c.args.key.number s.next o c.args.self.now c.self.view_is e c.remove_dependent_from.ensures c.in_ok-owner.ensures.number c.self.invariant.sound

@@ -12,25 +12,25 @@ use Rattle.cdi_store.proofs.store.Store.make.Goals as goal
 pub invariant_of-self-2 : goal.invariant_of-self-2
 invariant_of-self-2 c =
     let s = c.self.inside in
-    let m = s.numbers.entries in
+    let m = s.numbers in
     let n = s.next in
     let slot = c.insert_reserved-slot.result in
     let made : Instance = record { component = c.args.component; owner = c.args.owner; phase = New; fields = c.args.fields; references = c.new.result; value = Null; dependents = c.empty.result } in
     let number-is : c.in-Some.number ≡ n = c.in-Some.ensures.number ∙ sym (ap (λ k. k.next) c.self.view_is) in
-    let t = taking s.slots c.reserve.new.self c.insert_reserved-slot.new.self m c.insert.new.self.entries c.in-Some.number n c.vacant_key.result slot made (ap (λ k. k.slots) c.in_ok-reserve.ensures.rest_kept) c.in_ok-insert.ensures.entries number-is (c.vacant_key.ensures.value ∙ sym c.insert_reserved-slot.ensures.key) c.self.invariant.sound.below c.insert_reserved-slot.ensures.was_vacant c.insert_reserved-slot.ensures.updates in
+    let t = taking s.slots c.reserve.new.self c.insert_reserved-slot.new.self m c.push.new.self c.in-Some.number n c.vacant_key.result slot made (ap (λ k. k.slots) c.in_ok-reserve.ensures.rest_kept) c.in_ok-push.ensures.ok number-is (c.vacant_key.ensures.value ∙ sym c.insert_reserved-slot.ensures.key) c.insert_reserved-slot.ensures.was_vacant c.insert_reserved-slot.ensures.updates in
     let left : n < 2 ^ 32 = rw (ap (λ k. k.next) c.self.view_is) (c.in-Some.ensures.left.0 refl) in
     let is_newborn : made ≡ newborn c.args.component c.args.owner c.args.fields = rw (c.new.ensures, c.empty.ensures) refl in
-    born-kept s.slots.slots c.insert_reserved-slot.new.self.slots m c.insert.new.self.entries n slot made c.args.component c.args.owner c.args.fields is_newborn t left c.self.invariant
+    born-kept s.slots.slots c.insert_reserved-slot.new.self.slots m c.push.new.self n slot made c.args.component c.args.owner c.args.fields is_newborn t left c.self.invariant
 
 pub returns-clause-instances : goal.returns-clause-instances
 returns-clause-instances c =
     let s = c.self.inside in
-    let m = s.numbers.entries in
+    let m = s.numbers in
     let n = s.next in
     let slot = c.insert_reserved-slot.result in
     let made : Instance = record { component = c.args.component; owner = c.args.owner; phase = New; fields = c.args.fields; references = c.new.result; value = Null; dependents = c.empty.result } in
     let number-is : c.in-Some.number ≡ n = c.in-Some.ensures.number ∙ sym (ap (λ k. k.next) c.self.view_is) in
-    let t = taking s.slots c.reserve.new.self c.insert_reserved-slot.new.self m c.insert.new.self.entries c.in-Some.number n c.vacant_key.result slot made (ap (λ k. k.slots) c.in_ok-reserve.ensures.rest_kept) c.in_ok-insert.ensures.entries number-is (c.vacant_key.ensures.value ∙ sym c.insert_reserved-slot.ensures.key) c.self.invariant.sound.below c.insert_reserved-slot.ensures.was_vacant c.insert_reserved-slot.ensures.updates in
+    let t = taking s.slots c.reserve.new.self c.insert_reserved-slot.new.self m c.push.new.self c.in-Some.number n c.vacant_key.result slot made (ap (λ k. k.slots) c.in_ok-reserve.ensures.rest_kept) c.in_ok-push.ensures.ok number-is (c.vacant_key.ensures.value ∙ sym c.insert_reserved-slot.ensures.key) c.insert_reserved-slot.ensures.was_vacant c.insert_reserved-slot.ensures.updates in
     let is_newborn : made ≡ newborn c.args.component c.args.owner c.args.fields = rw (c.new.ensures, c.empty.ensures) refl in
     ap (instances_in c.insert_reserved-slot.new.self.slots) t.entries
     ∙ instances_in-taken s.slots.slots c.insert_reserved-slot.new.self.slots m n slot made t.vacant t.taken t.others c.self.invariant.sound.occupied
@@ -40,21 +40,21 @@ returns-clause-instances c =
 pub returns-clause-slots : goal.returns-clause-slots
 returns-clause-slots c =
     let s = c.self.inside in
-    let m = s.numbers.entries in
+    let m = s.numbers in
     let n = s.next in
     let slot = c.insert_reserved-slot.result in
     let made : Instance = record { component = c.args.component; owner = c.args.owner; phase = New; fields = c.args.fields; references = c.new.result; value = Null; dependents = c.empty.result } in
     let number-is : c.in-Some.number ≡ n = c.in-Some.ensures.number ∙ sym (ap (λ k. k.next) c.self.view_is) in
-    let t = taking s.slots c.reserve.new.self c.insert_reserved-slot.new.self m c.insert.new.self.entries c.in-Some.number n c.vacant_key.result slot made (ap (λ k. k.slots) c.in_ok-reserve.ensures.rest_kept) c.in_ok-insert.ensures.entries number-is (c.vacant_key.ensures.value ∙ sym c.insert_reserved-slot.ensures.key) c.self.invariant.sound.below c.insert_reserved-slot.ensures.was_vacant c.insert_reserved-slot.ensures.updates in
+    let t = taking s.slots c.reserve.new.self c.insert_reserved-slot.new.self m c.push.new.self c.in-Some.number n c.vacant_key.result slot made (ap (λ k. k.slots) c.in_ok-reserve.ensures.rest_kept) c.in_ok-push.ensures.ok number-is (c.vacant_key.ensures.value ∙ sym c.insert_reserved-slot.ensures.key) c.insert_reserved-slot.ensures.was_vacant c.insert_reserved-slot.ensures.updates in
     t.entries ∙ ap (λ k. k.slots ++ (k.next, slot) ∷ []) c.self.view_is
 
 pub returns-clause-live : goal.returns-clause-live
 returns-clause-live c =
     let s = c.self.inside in
-    let m = s.numbers.entries in
+    let m = s.numbers in
     let n = s.next in
     let slot = c.insert_reserved-slot.result in
     let made : Instance = record { component = c.args.component; owner = c.args.owner; phase = New; fields = c.args.fields; references = c.new.result; value = Null; dependents = c.empty.result } in
     let number-is : c.in-Some.number ≡ n = c.in-Some.ensures.number ∙ sym (ap (λ k. k.next) c.self.view_is) in
-    let t = taking s.slots c.reserve.new.self c.insert_reserved-slot.new.self m c.insert.new.self.entries c.in-Some.number n c.vacant_key.result slot made (ap (λ k. k.slots) c.in_ok-reserve.ensures.rest_kept) c.in_ok-insert.ensures.entries number-is (c.vacant_key.ensures.value ∙ sym c.insert_reserved-slot.ensures.key) c.self.invariant.sound.below c.insert_reserved-slot.ensures.was_vacant c.insert_reserved-slot.ensures.updates in
+    let t = taking s.slots c.reserve.new.self c.insert_reserved-slot.new.self m c.push.new.self c.in-Some.number n c.vacant_key.result slot made (ap (λ k. k.slots) c.in_ok-reserve.ensures.rest_kept) c.in_ok-push.ensures.ok number-is (c.vacant_key.ensures.value ∙ sym c.insert_reserved-slot.ensures.key) c.insert_reserved-slot.ensures.was_vacant c.insert_reserved-slot.ensures.updates in
     rw (t.entries, number-is, at-last m n slot c.self.invariant.sound.below) (eq-eqb slot slot refl)

@@ -6,13 +6,13 @@ use Rattle.cdi_store.proofs.store.Store.set_phase.Goals as goal
 pub invariant_of-self : goal.invariant_of-self
 invariant_of-self c =
     let s = c.self.inside in
-    let m = s.numbers.entries in
+    let m = s.numbers in
     let e = slot_of_live s.slots.slots m s.next c.args.key c.args.self.now c.self.view_is (sym c.requires) in
     still-kept _ s.slots c.set_phase_in.new.slots m c.args.key.number c.args.key.slot s.next (λ o. refl) (λ o. refl) c.set_phase_in.ensures e c.self.invariant
 
 pub returns : goal.returns
 returns c =
     let s = c.self.inside in
-    let m = s.numbers.entries in
+    let m = s.numbers in
     let e = slot_of_live s.slots.slots m s.next c.args.key c.args.self.now c.self.view_is (sym c.requires) in
     kept-changed _ s.slots c.set_phase_in.new.slots m c.args.key.number c.args.key.slot s.next c.args.self.now c.self.view_is c.self.invariant.sound e c.set_phase_in.ensures

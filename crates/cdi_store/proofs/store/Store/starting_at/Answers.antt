@@ -4,4 +4,4 @@ use Rattle.cdi_store.proofs.store.Store.starting_at.Goals as goal
 
 pub invariant_of-result : goal.invariant_of-result
 invariant_of-result c =
-    begun-kept c.new-2.result.slots c.new.result.entries c.from.result c.new.ensures.empty (omega arith) (omega arith)
+    begun-kept c.new-2.result.slots c.new.result c.from.result c.new.ensures (omega arith) (omega arith)
