@@ -11,7 +11,7 @@ ghost use Rattle.cdi_steps.specs.Ranks.{called_rank};
 ghost use Rattle.cdi_steps.specs.Steps.{GoesOn, Moves, Steps};
 
 use cdi_base::{BuiltIn, InterceptorMethod, Name, Seq, Value};
-use cdi_host::{Chain, Code, Contents, Invocation, Member, Resolution, Source, Tables};
+use cdi_host::{Chain, Code, Contents, Invocation, Member, Members, Resolution, Source, Tables};
 use cdi_steps::creation::reference_to;
 use cdi_steps::ends::{given, missing, raised};
 use cdi_steps::obtaining::{is_normal, stays};
@@ -131,8 +131,7 @@ fn invoke<T: Tables, W: Contents>(
 {
     let alloc = world.alloc();
     let ContainerCall { callee, args, .. } = Box::into_inner(call);
-    let mut members = Seq::empty(alloc);
-    members.push(code)?;
+    let members = Members::one(code, alloc);
     let parameters = CallParameters {
         callee,
         references: Seq::empty(alloc),

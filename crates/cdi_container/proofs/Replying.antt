@@ -29,7 +29,7 @@ use_replied request asked purpose (outcomes.Cut cause) w = refl
 pub replied : (job : Job) (o : Outcome) (w : World) → IsToldByEnd job → reply_of (has_value job) o ≡ reply_to (command_of job) (outcome_of o) w
 replied (jobs.Use request used) o w told = use_replied request (asked_for used.value.bean_type used.value.qualifiers) used.value.purpose o w
 replied jobs.Boot (outcomes.Ends (completions.Gave g)) w told = refl
-replied (jobs.Begin request session) (outcomes.Ends (completions.Gave g)) w told = refl
+replied (jobs.Begin names) (outcomes.Ends (completions.Gave g)) w told = refl
 replied (jobs.End request) (outcomes.Ends (completions.Gave g)) w told = refl
 replied (jobs.Invalidate session) (outcomes.Ends (completions.Gave g)) w told = refl
 replied (jobs.Fire request event) (outcomes.Ends (completions.Gave g)) w told = refl
@@ -42,7 +42,7 @@ replied job (outcomes.Cut cause) w told = refl
 pub is_live : (job : Job) → asks_for_live job ≡ true → command_of job ≡ Command.Live
 is_live jobs.Live e = refl
 is_live jobs.Boot e = absurd (cc)
-is_live (jobs.Begin request session) e = absurd (cc)
+is_live (jobs.Begin names) e = absurd (cc)
 is_live (jobs.End request) e = absurd (cc)
 is_live (jobs.Invalidate session) e = absurd (cc)
 is_live (jobs.Use request used) e = absurd (cc)
@@ -52,7 +52,7 @@ is_live jobs.Shutdown e = absurd (cc)
 pub told_by_end : (job : Job) → asks_for_live job ≡ false → IsToldByEnd job
 told_by_end jobs.Live e = absurd (cc)
 told_by_end jobs.Boot e = tt
-told_by_end (jobs.Begin request session) e = tt
+told_by_end (jobs.Begin names) e = tt
 told_by_end (jobs.End request) e = tt
 told_by_end (jobs.Invalidate session) e = tt
 told_by_end (jobs.Use request used) e = tt

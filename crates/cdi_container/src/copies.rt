@@ -5,7 +5,7 @@ ghost use Rattle.cdi_steps.specs.Known.{JobTellsRightly};
 ghost use Rattle.cdi_steps.specs.Words.{command_of};
 
 use cdi_base::Text;
-use cdi_steps::{BeanPurpose, BeanUse, Event, Job};
+use cdi_steps::{BeanPurpose, BeanUse, Event, Job, RequestNames};
 use std::alloc::{AllocError, Global};
 
 /// A copy of a name, if there is one.
@@ -53,6 +53,17 @@ fn copy_of_event(alloc: Global, event: &Event) -> Result<Box<Event>, AllocError>
     Ok(Box::new(alloc, copy)?)
 }
 
+/// A copy of the names of a request and its session.
+fn copy_of_names(alloc: Global, names: &RequestNames) -> Result<Box<RequestNames>, AllocError>
+    ensures { IfOk result (λ copy. copy.value ≡ names.now) }
+{
+    let copy = RequestNames {
+        request: names.request.clone()?,
+        session: copy_of(&names.session)?,
+    };
+    Ok(Box::new(alloc, copy)?)
+}
+
 /// A copy of a job, which asks for the same and tells the same.
 pub(crate) fn copy_of_job(alloc: Global, job: &Job) -> Result<Job, AllocError>
     ensures command { IfOk result (λ copy. command_of copy ≡ command_of job.now) }
@@ -61,10 +72,7 @@ pub(crate) fn copy_of_job(alloc: Global, job: &Job) -> Result<Job, AllocError>
 {
     match job {
         Job::Boot => Ok(Job::Boot),
-        Job::Begin { request, session } => Ok(Job::Begin {
-            request: request.clone()?,
-            session: copy_of(session)?,
-        }),
+        Job::Begin(names) => Ok(Job::Begin(copy_of_names(alloc, names)?)),
         Job::End { request } => Ok(Job::End {
             request: request.clone()?,
         }),

@@ -85,29 +85,30 @@ module _ (t : Tables) where
   via_missing r (vias.Param k) purpose w e = absurd (cc)
   via_missing r (vias.Local k) purpose w e = absurd (cc)
 
-  used : (b : Box machine.Running) (q : Box ReferenceUse) (x : Reference) (purpose : Purpose) → q.value ≡ record { reference = x; purpose = purpose }
-      → using b.value purpose x ≡ node (nexts.Needs (tasks.Through q) (frames.Answering b))
-  used b q x purpose e =
-      attempt_then (reach_instance x >>= λ n. use_instance n purpose) (go_on_with b.value)
-      ∙ ap (λ (u : ReferenceUse). around (use_reference u) (waits (frames.Answering b))) (sym e)
+  abbrev use_of : Reference → Purpose → ReferenceUse
+  use_of x purpose = record { reference = x; purpose = purpose }
 
-  pub via_leads : (b : Box machine.Running) (q : Box ReferenceUse) (via : Via) (x : Reference) (purpose : Purpose) (w : World)
-      → reference_via (instance_at w b.value.instance) b.value via ≡ Some x → q.value ≡ record { reference = x; purpose = purpose }
-      → ComesTo t (perform b.value (use_act via purpose)) w (nexts.Needs (tasks.Through q) (frames.Answering b)) w
-  via_leads b q (vias.Field field) x purpose w e h = Comes.within 1 (field_looks b.value field purpose w ∙ ap (λ p. (p, w)) (by (instance_at w b.value.instance) e))
+  used : (b : Box machine.Running) (x : Reference) (purpose : Purpose)
+      → using b.value purpose x ≡ node (nexts.Needs (tasks.Through (use_of x purpose)) (frames.Answering b))
+  used b x purpose = attempt_then (reach_instance x >>= λ n. use_instance n purpose) (go_on_with b.value)
+
+  pub via_leads : (b : Box machine.Running) (via : Via) (x : Reference) (purpose : Purpose) (w : World)
+      → reference_via (instance_at w b.value.instance) b.value via ≡ Some x
+      → ComesTo t (perform b.value (use_act via purpose)) w (nexts.Needs (tasks.Through (use_of x purpose)) (frames.Answering b)) w
+  via_leads b (vias.Field field) x purpose w e = Comes.within 1 (field_looks b.value field purpose w ∙ ap (λ p. (p, w)) (by (instance_at w b.value.instance) e))
     where
       by : (o : Option Instance) → reference_via o b.value (vias.Field field) ≡ Some x
-          → using_field b.value field purpose o ≡ node (nexts.Needs (tasks.Through q) (frames.Answering b))
+          → using_field b.value field purpose o ≡ node (nexts.Needs (tasks.Through (use_of x purpose)) (frames.Answering b))
       by None e = absurd (cc)
       by (Some o) e =
           let z : reference_at (at o.references field) ≡ x = cc in
-          ap (using b.value purpose) z ∙ used b q x purpose h
-  via_leads b q (vias.Param k) x purpose w e h =
+          ap (using b.value purpose) z ∙ used b x purpose
+  via_leads b (vias.Param k) x purpose w e =
       let z : reference_at (slice_get b.value.references k) ≡ x = cc in
-      Comes.within 0 (ap (λ p. (p, w)) (parameter_uses b.value k purpose ∙ ap (using b.value purpose) z ∙ used b q x purpose h))
-  via_leads b q (vias.Local k) x purpose w e h =
+      Comes.within 0 (ap (λ p. (p, w)) (parameter_uses b.value k purpose ∙ ap (using b.value purpose) z ∙ used b x purpose))
+  via_leads b (vias.Local k) x purpose w e =
       let z : reference_at (at b.value.locals k) ≡ x = cc in
-      Comes.within 0 (ap (λ p. (p, w)) (local_uses b.value k purpose ∙ ap (using b.value purpose) z ∙ used b q x purpose h))
+      Comes.within 0 (ap (λ p. (p, w)) (local_uses b.value k purpose ∙ ap (using b.value purpose) z ∙ used b x purpose))
 
   -- ---- context data
 

@@ -18,7 +18,7 @@ use cdi_host::{Contents, Stack as Waiting, Tables};
 use cdi_machine::{Driver, Failure};
 use cdi_steps::ends::cut;
 use cdi_steps::task::{Call, Continuation, Frame, Next, Task};
-use cdi_steps::{Outcome, chains};
+use cdi_steps::{Outcome, chains, creation, destruction};
 use std::alloc::AllocError;
 
 /// Writes an entry of which the driver is told, if the command may have one more. An error comes from the driver, or memory is
@@ -78,8 +78,8 @@ fn has_room<W: Contents>(world: &W, first: u64, most: u64) -> bool
 /// stack meant has run to this outcome. On an error, memory ran out or the driver gave nothing, and what was written is what
 /// such a run writes first. No turn writes more.
 ///
-/// What a step comes to stays where it is until the next one takes it, and the steps of a call are picked here: a stack that is
-/// handed on costs more than most steps, and so does a function that picks among all of them.
+/// What a step comes to stays where it is until the next one takes it, and the steps of calls, creations and destructions are
+/// picked here: a stack that is handed on costs more than most steps, and so does a function that picks among all of them.
 pub fn turn<T: Tables, D: Driver, W: Contents>(
     tables: &T,
     driver: &mut D,
@@ -115,8 +115,20 @@ pub fn turn<T: Tables, D: Driver, W: Contents>(
                     Call::Rest(chain) => next = chains::rest(tables, world, chain)?,
                     Call::Body(running) => next = bodies::begin(tables, world, running),
                     Call::Acts(running) => next = bodies::act(tables, driver, world, running)?,
+                    Call::Create { bean, owner } => {
+                        next = creation::create(tables, world, bean, owner)?
+                    }
+                    Call::Destroy { number } => next = destruction::destroy(tables, world, number),
+                    Call::Release { number } => {
+                        next = destruction::release(tables, driver, world, number)?
+                    }
                     call => next = start(tables, driver, world, call)?,
                 },
+                Task::Creating {
+                    number,
+                    component,
+                    left,
+                } => next = creation::creating(tables, world, number, component, left)?,
                 Task::Through(used) => next = references::through(tables, world, used)?,
                 task => next = step(tables, driver, world, task)?,
             },

@@ -30,10 +30,13 @@ impl Chain {
         }
     }
 
-    /// A copy of these interceptors, in order. The one error is that memory ran out.
+    /// A copy of these interceptors, in order. The one error is that memory ran out; no interceptors need none.
     pub fn from_slice(alloc: Global, interceptors: &[u32]) -> Result<Chain, AllocError>
         ensures { IfOk result (λ chain. chain ≡ interceptors.now) }
     {
+        if interceptors.is_empty() {
+            return Ok(Chain::empty(alloc));
+        }
         let mut all = Vec::from_slice(alloc, interceptors)?;
         all.reverse();
         Ok(Chain { interceptors: all })

@@ -5,6 +5,7 @@ ghost use Rattle.cdi_base.specs.Maps.{at};
 ghost use Rattle.cdi_machine.specs.Bodies.{invocation_at_start};
 ghost use Rattle.cdi_host.specs.Invocation.{reached, with_data, with_parameters, with_references};
 
+use crate::members::Members;
 use cdi_base::{Fields, InterceptorMethod, Name, Seq, Value};
 use cdi_machine::Code;
 use cdi_store::Reference;
@@ -16,11 +17,13 @@ use std::marker::Model;
 pub struct Invocation {
     target: u32,
     role: InterceptorMethod,
-    members: Seq<Code>,
+    members: Members,
     parameters: Seq<Value>,
     references: Seq<Reference>,
-    data_of: Fields,
+    /// Most invocations keep nothing, and need no map.
+    data_of: Option<Box<Fields>>,
     completed: bool,
+    alloc: Global,
 }
 
 /// In one call, so that the proof of each function that owns an invocation has one step here, and not one for each of its
@@ -35,12 +38,15 @@ impl Drop for Invocation {
             references: _references,
             data_of: _data_of,
             completed: _completed,
+            alloc: _alloc,
         } = self;
     }
 }
 
 impl Model for Invocation {
+    ghost use Rattle.std.specs.Prelude.{option_map};
     ghost use Rattle.cdi_machine.specs.World.{Invocation as AnyInvocation};
+    ghost use Rattle.cdi_host.specs.FirstUse.{or_empty};
 
     ghost Value = { AnyInvocation };
 
@@ -50,9 +56,20 @@ impl Model for Invocation {
       members = i.members;
       parameters = i.parameters;
       references = i.references;
-      data_of = i.data_of;
+      data_of = or_empty (option_map (λ b. b.value) i.data_of);
       completed = i.completed;
     } };
+}
+
+/// The value at a key of context data, if one is kept there.
+fn value_in(kept: &Fields, key: Name) -> Option<&Value>
+    ensures { option_copied result ≡ at kept.now key }
+{
+    if kept.has(key) {
+        Some(kept.get(key))
+    } else {
+        None
+    }
 }
 
 impl Invocation {
@@ -61,7 +78,7 @@ impl Invocation {
     pub fn new(
         target: u32,
         role: InterceptorMethod,
-        members: Seq<Code>,
+        members: Members,
         parameters: Seq<Value>,
         alloc: Global,
     ) -> Invocation
@@ -73,8 +90,9 @@ impl Invocation {
             members,
             parameters,
             references: Seq::empty(alloc),
-            data_of: Fields::new(alloc),
+            data_of: None,
             completed: false,
+            alloc,
         }
     }
 
@@ -117,10 +135,9 @@ impl Invocation {
     pub fn data_at(&self, key: Name) -> Option<&Value>
         ensures { option_copied result ≡ at self.now.data_of key }
     {
-        if self.data_of.has(key) {
-            Some(self.data_of.get(key))
-        } else {
-            None
+        match &self.data_of {
+            Some(data) => value_in(data, key),
+            None => None,
         }
     }
 
@@ -152,7 +169,13 @@ impl Invocation {
         ensures err { OnErr result (self.new ≡ self.old) }
         ensures there { IsSome (at self.old.data_of key) → IsOk result }
     {
-        self.data_of.put(key, value)
+        if let Some(data) = &mut self.data_of {
+            return data.put(key, value);
+        }
+        let mut data = Fields::new(self.alloc);
+        data.put(key, value)?;
+        self.data_of = Some(Box::new(self.alloc, data)?);
+        Ok(())
     }
 
     /// The chain's end has been reached.

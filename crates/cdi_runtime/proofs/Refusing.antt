@@ -110,7 +110,7 @@ refused_known t u r = by (t.is_known (asked_by u))
 -- a job that the contexts don't refuse and that uses no bean
 pub known_beside : (t : machine.Tables) (w : World) (job : Job) → contexts_refusal w.contexts (command_of job) ≡ None
     → ((r : Option (List ℕ)) (u : Box BeanUse) → job ≡ jobs.Use r u → ⊥) → KnownJob t w job
-known_beside t w (jobs.Begin r s) e not_use = e
+known_beside t w (jobs.Begin names) e not_use = e
 known_beside t w jobs.Boot e not_use = tt
 known_beside t w (jobs.End r) e not_use = tt
 known_beside t w (jobs.Invalidate s) e not_use = tt

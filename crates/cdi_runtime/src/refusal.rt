@@ -122,8 +122,8 @@ fn refuses_in_contexts(world: &World, job: &Job) -> Option<Refusal>
 {
     match job {
         Job::Boot | Job::Live | Job::Shutdown => None,
-        Job::Begin { request, session } => {
-            world.refuses_begin(request.as_str(), text_of(session.as_ref()))
+        Job::Begin(names) => {
+            world.refuses_begin(names.request.as_str(), text_of(names.session.as_ref()))
         }
         Job::End { request } => world.refuses_in(Some(request.as_str())),
         Job::Invalidate { session } => world.refuses_invalidate(session.as_str()),

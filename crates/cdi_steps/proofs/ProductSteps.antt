@@ -108,21 +108,21 @@ module _ (t : Tables) where
       ap (λ k. change (Change.Make (components.Bean b) owner (first_fields k)) (create_by n (make n bean k))) e
       ∙ ap (change (Change.Make (components.Bean b) owner [])) (produces n bean p)
 
-  pub make_product_missing : (n b : ℕ) (owner : Owner) (w : World) → option_map head_of (t.bean b) ≡ None
+  pub make_product_missing : (n b : ℕ) (owner : Box Owner) (w : World) → option_map head_of (t.bean b) ≡ None
       → MovesTo t (tasks.Continue (continuations.Making n (components.Bean b) owner)) w (nexts.Finished (outcomes.Ends (completions.Threw (number_of built_in.IllegalStateException)))) w
-  make_product_missing n b owner w e = Comes.same (ap (λ x. next_stop t (making n b owner x) w) (is_absent (t.bean b) e))
+  make_product_missing n b owner w e = Comes.same (ap (λ x. next_stop t (making n b owner.value x) w) (is_absent (t.bean b) e))
 
-  pub make_product_leads : (n b : ℕ) (owner : Owner) (head : BeanHead) (p : Product) (c : Box ContainerCall) (fields : Fields) {normal : Bool} (w : World) → IsThere (t.bean b) head → product_at t b ≡ Some p
+  pub make_product_leads : (n b : ℕ) (owner : Box Owner) (head : BeanHead) (p : Product) (c : Box ContainerCall) (fields : Fields) {normal : Bool} (w : World) → IsThere (t.bean b) head → product_at t b ≡ Some p
       → c.value ≡ record { declaring = p.declaring; callee = callees.Producer n b; args = [] } → fields ≡ [] → is_normal head.scope ≡ normal
-      → MovesTo t (tasks.Continue (continuations.Making n (components.Bean b) owner)) w (nexts.Needs (tasks.Calling c) (frames.Producing n normal)) (after_change (Change.Make (components.Bean b) owner fields) w)
+      → MovesTo t (tasks.Continue (continuations.Making n (components.Bean b) owner)) w (nexts.Needs (tasks.Calling c) (frames.Producing n normal)) (after_change (Change.Make (components.Bean b) owner.value fields) w)
   make_product_leads n b owner head p c fields w there e q f z =
       rw f
       (Comes.looks (Comes.within 2
-      (ap (λ x. after_steps 1 t (making n b owner x) w) there.there
-      ∙ ap (λ x. after_steps 1 t x w) (made n b owner there.bean p (producer_of (t.bean b) there.bean p there.there e))
-      ∙ ap (λ x. (around x (create_with n (is_normal there.bean.scope)), after_change (Change.Make (components.Bean b) owner []) w)) (receives n b p c.value e q)
-      ∙ ap (λ (h : BeanHead). (around (borrow_for (receive t c.value)) (create_with n (is_normal h.scope)), after_change (Change.Make (components.Bean b) owner []) w)) there.headed
-      ∙ ap (λ y. (around (borrow_for (receive t c.value)) (create_with n y), after_change (Change.Make (components.Bean b) owner []) w)) z)))
+      (ap (λ x. after_steps 1 t (making n b owner.value x) w) there.there
+      ∙ ap (λ x. after_steps 1 t x w) (made n b owner.value there.bean p (producer_of (t.bean b) there.bean p there.there e))
+      ∙ ap (λ x. (around x (create_with n (is_normal there.bean.scope)), after_change (Change.Make (components.Bean b) owner.value []) w)) (receives n b p c.value e q)
+      ∙ ap (λ (h : BeanHead). (around (borrow_for (receive t c.value)) (create_with n (is_normal h.scope)), after_change (Change.Make (components.Bean b) owner.value []) w)) there.headed
+      ∙ ap (λ y. (around (borrow_for (receive t c.value)) (create_with n y), after_change (Change.Make (components.Bean b) owner.value []) w)) z)))
 
   -- ---- what was produced
 

@@ -35,7 +35,7 @@ pub(crate) fn make_product<T: Tables, W: Contents>(
     world: &mut W,
     number: u32,
     bean: u32,
-    owner: Owner,
+    owner: Box<Owner>,
 ) -> Result<Next, AllocError>
     requires known { KnownContinuation (T.tables tables.now) (W.world world.old)
         (Continuation.Making number (Component.Bean bean) owner) }
@@ -53,7 +53,11 @@ pub(crate) fn make_product<T: Tables, W: Contents>(
     };
     let alloc = world.alloc();
     let call = producer_call(alloc, product.declaring, number, bean)?;
-    world.make(Component::Bean(bean), owner, Fields::new(alloc))?;
+    world.make(
+        Component::Bean(bean),
+        Box::into_inner(owner),
+        Fields::new(alloc),
+    )?;
     let normal = is_normal(head.scope);
     Ok(Next::Needs(Task::Calling(call), Frame::Producing { number, normal }))
 }

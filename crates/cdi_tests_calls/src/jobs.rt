@@ -31,7 +31,7 @@ use cdi_host::Contents;
 use cdi_machine::{Driver, Failure};
 use cdi_runtime::Runtime;
 use cdi_steps::task::Task;
-use cdi_steps::{BeanPurpose, BeanUse, Completion, Event, Given, Job, Outcome};
+use cdi_steps::{BeanPurpose, BeanUse, Completion, Event, Given, Job, Outcome, RequestNames};
 use cdi_tests_player::Ledger;
 use cdi_world::World;
 use std::alloc::{AllocError, Global};
@@ -119,17 +119,22 @@ fn command_job_of(
     }))
 }
 
+/// The job that begins a request.
+fn begin_of(alloc: Global, request: &str, session: Option<Text>) -> Result<Job, AllocError> {
+    let names = RequestNames {
+        request: Text::from_str(alloc, request)?,
+        session,
+    };
+    Ok(Job::Begin(Box::new(alloc, names)?))
+}
+
 /// The job of a request or a session that words ask for, if they do.
 fn context_job_of(alloc: Global, words: &[&str]) -> Result<Option<Job>, AllocError> {
     Ok(Some(match words {
-        ["begin", request] => Job::Begin {
-            request: Text::from_str(alloc, request)?,
-            session: None,
-        },
-        ["begin", request, session] => Job::Begin {
-            request: Text::from_str(alloc, request)?,
-            session: Some(Text::from_str(alloc, session)?),
-        },
+        ["begin", request] => begin_of(alloc, request, None)?,
+        ["begin", request, session] => {
+            begin_of(alloc, request, Some(Text::from_str(alloc, session)?))?
+        }
         ["end", request] => Job::End {
             request: Text::from_str(alloc, request)?,
         },

@@ -36,8 +36,7 @@ pub(super) fn use_through<T: Tables, W: Contents>(
     let Some(reference) = reference_via(world, &running, via) else {
         return answer(tables, world, running, missed());
     };
-    let used = ReferenceUse { reference, purpose };
-    let part = Task::Through(Box::new(world.alloc(), used)?);
+    let part = Task::Through(ReferenceUse { reference, purpose });
     Ok(Next::Needs(part, Frame::Answering(running)))
 }
 

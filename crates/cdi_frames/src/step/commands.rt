@@ -11,7 +11,8 @@ use cdi_events::contexts;
 use cdi_host::{Contents, Tables};
 use cdi_steps::ends::{ended, null};
 use cdi_steps::task::{
-    AfterClose, BeanUse, Call, Completion, ContainerEvent, Event, Frame, Job, Next, Task,
+    AfterClose, BeanUse, Call, Completion, ContainerEvent, Event, Frame, Job, Next, RequestNames,
+    Task,
 };
 use cdi_store::Context;
 use std::alloc::{AllocError, Global};
@@ -33,7 +34,7 @@ pub(super) fn begin<T: Tables, W: Contents>(
             let event = ContainerEvent::Initialized(Scope::ApplicationScoped);
             Ok(Next::Needs(Task::Start(Call::Fire(event)), Frame::Initializing))
         }
-        Job::Begin { request, session } => begin_request(tables, world, request, session),
+        Job::Begin(names) => begin_request(tables, world, names),
         Job::End { request } => contexts::end_request(tables, world, request, AfterClose::Session),
         Job::Invalidate { session } => invalidate(tables, world, session),
         Job::Use { request, used } => use_bean(tables, world, request, used),
@@ -50,14 +51,14 @@ pub(super) fn begin<T: Tables, W: Contents>(
 fn begin_request<T: Tables, W: Contents>(
     _tables: &T,
     world: &mut W,
-    request: Text,
-    session: Option<Text>,
+    names: Box<RequestNames>,
 ) -> Result<Next, AllocError>
-    requires { KnownJob (T.tables _tables.now) (W.world world.old) (Job.Begin request session) }
+    requires { KnownJob (T.tables _tables.now) (W.world world.old) (Job.Begin names) }
     ensures step { IfOk result (λ next. Moves (T.tables _tables.now)
-        (Task.Begin (Job.Begin request session)) (W.world world.old) next (W.world world.new)) }
+        (Task.Begin (Job.Begin names)) (W.world world.old) next (W.world world.new)) }
     ensures kept { OnErr result (W.world world.new ≡ W.world world.old) }
 {
+    let RequestNames { request, session } = Box::into_inner(names);
     if !world.begin_request(request, session)? {
         return Ok(opened());
     }

@@ -68,6 +68,48 @@ steps-preserved-in-Acts g c = record {
 pub steps-smaller-in-Acts : goal.steps-smaller-in-Acts
 steps-smaller-in-Acts g c = goes_lowers c.steps.frames c.steps.next _ (tasks.Start (calls.Acts c.in-Acts.running)) (call_is c.in-Goes.is c.in-Start.is c.in-Acts.is) c.in_ok-next-in-Acts.ensures.step
 
+pub returns-in_err-next-in-Create-clause-turned : goal.returns-in_err-next-in-Create-clause-turned
+returns-in_err-next-in-Create-clause-turned g c = fails_turned c.steps.invariant.here _ refl c.from_residual-in_err-next-in-Create.result (search rules)
+
+pub returns-in_err-next-in-Create-clause-failed : goal.returns-in_err-next-in-Create-clause-failed
+returns-in_err-next-in-Create-clause-failed g c = passed_on _ c.from_residual-in_err-next-in-Create.result (fails_failed c.steps.invariant.here _ refl starves_alone c.steps.invariant.narrows.may_end) c.from_residual-in_err-next-in-Create.ensures
+
+pub steps-preserved-in-Create : goal.steps-preserved-in-Create
+steps-preserved-in-Create g c = record {
+  narrows = c.steps.invariant.narrows;
+  here = goes_moves c.steps.invariant.narrows.legal c.steps.frames c.steps.next _ (tasks.Start (calls.Create c.in-Create.bean c.in-Create.owner)) _ (call_is c.in-Goes.is c.in-Start.is c.in-Create.is) c.steps.invariant.here c.in_ok-next-in-Create.ensures;
+  first = c.steps.invariant.first;
+}
+
+pub steps-smaller-in-Create : goal.steps-smaller-in-Create
+steps-smaller-in-Create g c = goes_lowers c.steps.frames c.steps.next _ (tasks.Start (calls.Create c.in-Create.bean c.in-Create.owner)) (call_is c.in-Goes.is c.in-Start.is c.in-Create.is) (driven (g.D.Driver.legal c.args.driver.now) c.in_ok-next-in-Create.ensures)
+
+pub steps-preserved-in-Destroy : goal.steps-preserved-in-Destroy
+steps-preserved-in-Destroy g c = record {
+  narrows = c.steps.invariant.narrows;
+  here = goes_moves c.steps.invariant.narrows.legal c.steps.frames c.steps.next _ (tasks.Start (calls.Destroy c.in-Destroy.number)) _ (call_is c.in-Goes.is c.in-Start.is c.in-Destroy.is) c.steps.invariant.here c.destroy-next.ensures;
+  first = c.steps.invariant.first;
+}
+
+pub steps-smaller-in-Destroy : goal.steps-smaller-in-Destroy
+steps-smaller-in-Destroy g c = goes_lowers c.steps.frames c.steps.next _ (tasks.Start (calls.Destroy c.in-Destroy.number)) (call_is c.in-Goes.is c.in-Start.is c.in-Destroy.is) (driven (g.D.Driver.legal c.args.driver.now) c.destroy-next.ensures)
+
+pub returns-in_err-next-in-Release-clause-turned : goal.returns-in_err-next-in-Release-clause-turned
+returns-in_err-next-in-Release-clause-turned g c = fails_turned c.steps.invariant.here _ refl c.from_residual-in_err-next-in-Release.result (search rules)
+
+pub returns-in_err-next-in-Release-clause-failed : goal.returns-in_err-next-in-Release-clause-failed
+returns-in_err-next-in-Release-clause-failed g c = passed_on _ c.from_residual-in_err-next-in-Release.result (fails_failed c.steps.invariant.here _ refl c.in_err-next-in-Release.ensures.failed c.steps.invariant.narrows.may_end) c.from_residual-in_err-next-in-Release.ensures
+
+pub steps-preserved-in-Release : goal.steps-preserved-in-Release
+steps-preserved-in-Release g c = record {
+  narrows = narrows_trans c.steps.invariant.narrows c.in_ok-next-in-Release.ensures.narrows;
+  here = goes_done c.steps.invariant.narrows.legal c.steps.frames c.steps.next _ (tasks.Start (calls.Release c.in-Release.number)) _ (call_is c.in-Goes.is c.in-Start.is c.in-Release.is) c.steps.invariant.here c.in_ok-next-in-Release.ensures.step c.in_ok-next-in-Release.ensures.asked;
+  first = c.steps.invariant.first;
+}
+
+pub steps-smaller-in-Release : goal.steps-smaller-in-Release
+steps-smaller-in-Release g c = goes_lowers c.steps.frames c.steps.next _ (tasks.Start (calls.Release c.in-Release.number)) (call_is c.in-Goes.is c.in-Start.is c.in-Release.is) c.in_ok-next-in-Release.ensures.step
+
 pub returns-in_err-next-in_default-call-clause-turned : goal.returns-in_err-next-in_default-call-clause-turned
 returns-in_err-next-in_default-call-clause-turned g c = fails_turned c.steps.invariant.here _ c.in_err-next-in_default-call.ensures.kept c.from_residual-in_err-next-in_default-call.result (search rules)
 
@@ -83,6 +125,22 @@ steps-preserved-in_default-call g c = record {
 
 pub steps-smaller-in_default-call : goal.steps-smaller-in_default-call
 steps-smaller-in_default-call g c = goes_lowers c.steps.frames c.steps.next _ (tasks.Start c.in-Start.call) (call_is c.in-Goes.is c.in-Start.is refl) c.in_ok-next-in_default-call.ensures.step
+
+pub returns-in_err-next-in-Creating-clause-turned : goal.returns-in_err-next-in-Creating-clause-turned
+returns-in_err-next-in-Creating-clause-turned g c = fails_turned c.steps.invariant.here _ c.in_err-next-in-Creating.ensures.kept c.from_residual-in_err-next-in-Creating.result (search rules)
+
+pub returns-in_err-next-in-Creating-clause-failed : goal.returns-in_err-next-in-Creating-clause-failed
+returns-in_err-next-in-Creating-clause-failed g c = passed_on _ c.from_residual-in_err-next-in-Creating.result (fails_failed c.steps.invariant.here _ c.in_err-next-in-Creating.ensures.kept starves_alone c.steps.invariant.narrows.may_end) c.from_residual-in_err-next-in-Creating.ensures
+
+pub steps-preserved-in-Creating : goal.steps-preserved-in-Creating
+steps-preserved-in-Creating g c = record {
+  narrows = c.steps.invariant.narrows;
+  here = goes_moves c.steps.invariant.narrows.legal c.steps.frames c.steps.next _ (tasks.Creating c.in-Creating.number c.in-Creating.component c.in-Creating.left) _ (task_is c.in-Goes.is c.in-Creating.is) c.steps.invariant.here c.in_ok-next-in-Creating.ensures.step;
+  first = c.steps.invariant.first;
+}
+
+pub steps-smaller-in-Creating : goal.steps-smaller-in-Creating
+steps-smaller-in-Creating g c = goes_lowers c.steps.frames c.steps.next _ (tasks.Creating c.in-Creating.number c.in-Creating.component c.in-Creating.left) (task_is c.in-Goes.is c.in-Creating.is) (driven (g.D.Driver.legal c.args.driver.now) c.in_ok-next-in-Creating.ensures.step)
 
 pub returns-in_err-next-in-Through-clause-turned : goal.returns-in_err-next-in-Through-clause-turned
 returns-in_err-next-in-Through-clause-turned g c = fails_turned c.steps.invariant.here _ c.in_err-next-in-Through.ensures.kept c.from_residual-in_err-next-in-Through.result (search rules)

@@ -20,11 +20,17 @@ returns-in_err-obtain-in-Obtain-clause-failed g c = passed_on _ c.from_residual.
 pub returns-in_ok-obtain-in-Obtain-clause-step : goal.returns-in_ok-obtain-in-Obtain-clause-step
 returns-in_ok-obtain-in-Obtain-clause-step g c = rw c.in-Obtain.is (driven (g.D.Driver.legal c.args.driver.now) c.in_ok-obtain-in-Obtain.ensures.step)
 
-pub returns-in-Intercept-clause-step : goal.returns-in-Intercept-clause-step
-returns-in-Intercept-clause-step g c = rw c.in-Intercept.is (driven (g.D.Driver.legal c.args.driver.now) c.intercept.ensures)
+pub returns-in_err-intercept-in-Intercept-clause-failed : goal.returns-in_err-intercept-in-Intercept-clause-failed
+returns-in_err-intercept-in-Intercept-clause-failed g c = passed_on _ c.from_residual-in_err-intercept-in-Intercept.result starves_alone c.from_residual-in_err-intercept-in-Intercept.ensures
 
-pub returns-in-Create-clause-step : goal.returns-in-Create-clause-step
-returns-in-Create-clause-step g c = rw c.in-Create.is (driven (g.D.Driver.legal c.args.driver.now) c.create.ensures)
+pub returns-in_ok-intercept-in-Intercept-clause-step : goal.returns-in_ok-intercept-in-Intercept-clause-step
+returns-in_ok-intercept-in-Intercept-clause-step g c = rw c.in-Intercept.is (driven (g.D.Driver.legal c.args.driver.now) c.in_ok-intercept-in-Intercept.ensures)
+
+pub returns-in_err-create-in-Create-clause-failed : goal.returns-in_err-create-in-Create-clause-failed
+returns-in_err-create-in-Create-clause-failed g c = passed_on _ c.from_residual-in_err-create-in-Create.result starves_alone c.from_residual-in_err-create-in-Create.ensures
+
+pub returns-in_ok-create-in-Create-clause-step : goal.returns-in_ok-create-in-Create-clause-step
+returns-in_ok-create-in-Create-clause-step g c = rw c.in-Create.is (driven (g.D.Driver.legal c.args.driver.now) c.in_ok-create-in-Create.ensures)
 
 pub returns-in-Body-clause-step : goal.returns-in-Body-clause-step
 returns-in-Body-clause-step g c = rw c.in-Body.is (driven (g.D.Driver.legal c.args.driver.now) c.begin.ensures)

@@ -15,5 +15,5 @@ returns-in_default-next_number g c =
 pub returns : goal.returns
 returns g c =
     let there = is_named (g.T.Tables.tables c.args.tables.now) ((g.T.Tables.tables c.args.tables.now).interceptor c.args.interceptor) c.in-Some.name c.in-Some.ensures in
-    leaves_alone (intercept_leads (g.T.Tables.tables c.args.tables.now) c.args.interceptor c.args.intercepted c.in-Some.name c.in-Some-next_number.number (g.W.Contents.world c.args.world.now) there c.in-Some-next_number.ensures) (omega arith) refl
+    leaves_alone (intercept_leads (g.T.Tables.tables c.args.tables.now) c.args.interceptor c.args.intercepted c.in-Some.name c.in-Some-next_number.number c.in_ok-new.field-0 (g.W.Contents.world c.args.world.now) there c.in-Some-next_number.ensures c.in_ok-new.ensures.ok) (omega arith) refl
     (number_below c.in-Some-next_number.number (g.W.Contents.world c.args.world.now) c.in-Some-next_number.ensures) refl

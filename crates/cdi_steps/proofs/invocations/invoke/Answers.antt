@@ -14,7 +14,7 @@ returns-then-len-method-clause-step g c =
 
 pub returns-clause-step : goal.returns-clause-step
 returns-clause-step g c =
-    let entered = rw (c.in_ok-push.ensures.ok, c.empty-members.ensures) at c.new.ensures in
+    let entered = rw c.one-members.ensures at c.new.ensures in
     rw c.in_ok-enter.ensures.ok (record {
       settles = invoke_first (g.T.Tables.tables c.args.tables.now) c.args.number c.args.name c.args.args c.in-Some.method.now (g.W.Contents.world c.args.world.now) c.in-Some.ensures.found (search rules) entered (rw c.as_slice.ensures at c.in_ok-chain.ensures);
       lowers = omega arith;

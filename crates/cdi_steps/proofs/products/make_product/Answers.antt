@@ -17,6 +17,6 @@ returns-in_default-product-clause-step g c = absurd (not_absent (g.T.Tables.tabl
 pub returns-clause-step : goal.returns-clause-step
 returns-clause-step g c =
     let there = is_there ((g.T.Tables.tables c.args.tables.now).bean c.args.bean) c.in-Some.head c.in-Some.ensures in
-    rw c.in_ok-make.ensures.ok
+    rw (c.in_ok-make.ensures.ok, c.into_inner.ensures)
     (leaves_alone (make_product_leads (g.T.Tables.tables c.args.tables.now) c.args.number c.args.bean c.args.owner c.in-Some.head (product_told c.in-Some-product.product.now) c.in_ok-call.call c.new.result (g.W.Contents.world c.args.world.now) there c.in-Some-product.ensures.product c.in_ok-call.ensures c.new.ensures c.is_normal-normal.ensures) (omega arith)
-    (make_invocations (Bean c.args.bean) c.args.owner c.new.result (g.W.Contents.world c.args.world.now)) (rw c.in_ok-call.ensures (tt, tt)) tt)
+    (make_invocations (Bean c.args.bean) c.args.owner.value c.new.result (g.W.Contents.world c.args.world.now)) (rw c.in_ok-call.ensures (tt, tt)) tt)

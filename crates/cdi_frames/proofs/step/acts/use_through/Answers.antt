@@ -10,4 +10,4 @@ returns-in_default g c =
 
 pub returns : goal.returns
 returns g c =
-    leaves_alone (via_leads (g.T.Tables.tables c.args.tables.now) c.args.running c.in_ok-new.field-0 c.args.via c.in-Some.reference c.args.purpose (g.W.Contents.world c.args.world.now) (rw c.deref.ensures at c.in-Some.ensures) c.in_ok-new.ensures.ok) (omega arith) refl (tt, c.requires) tt
+    leaves_alone (via_leads (g.T.Tables.tables c.args.tables.now) c.args.running c.args.via c.in-Some.reference c.args.purpose (g.W.Contents.world c.args.world.now) (rw c.deref.ensures at c.in-Some.ensures)) (omega arith) refl (tt, c.requires) tt
