@@ -158,6 +158,38 @@ steps-preserved-in-Through g c = record {
 pub steps-smaller-in-Through : goal.steps-smaller-in-Through
 steps-smaller-in-Through g c = goes_lowers c.steps.frames c.steps.next _ (tasks.Through c.in-Through.used) (task_is c.in-Goes.is c.in-Through.is) (driven (g.D.Driver.legal c.args.driver.now) c.in_ok-next-in-Through.ensures.step)
 
+pub returns-in_err-next-in-Begin-clause-turned : goal.returns-in_err-next-in-Begin-clause-turned
+returns-in_err-next-in-Begin-clause-turned g c = fails_turned c.steps.invariant.here _ c.in_err-next-in-Begin.ensures.kept c.from_residual-in_err-next-in-Begin.result (search rules)
+
+pub returns-in_err-next-in-Begin-clause-failed : goal.returns-in_err-next-in-Begin-clause-failed
+returns-in_err-next-in-Begin-clause-failed g c = passed_on _ c.from_residual-in_err-next-in-Begin.result (fails_failed c.steps.invariant.here _ c.in_err-next-in-Begin.ensures.kept starves_alone c.steps.invariant.narrows.may_end) c.from_residual-in_err-next-in-Begin.ensures
+
+pub steps-preserved-in-Begin : goal.steps-preserved-in-Begin
+steps-preserved-in-Begin g c = record {
+  narrows = c.steps.invariant.narrows;
+  here = goes_moves c.steps.invariant.narrows.legal c.steps.frames c.steps.next _ (tasks.Begin c.in-Begin.job) _ (task_is c.in-Goes.is c.in-Begin.is) c.steps.invariant.here c.in_ok-next-in-Begin.ensures.step;
+  first = c.steps.invariant.first;
+}
+
+pub steps-smaller-in-Begin : goal.steps-smaller-in-Begin
+steps-smaller-in-Begin g c = goes_lowers c.steps.frames c.steps.next _ (tasks.Begin c.in-Begin.job) (task_is c.in-Goes.is c.in-Begin.is) (driven (g.D.Driver.legal c.args.driver.now) c.in_ok-next-in-Begin.ensures.step)
+
+pub returns-in_err-next-in-Using-clause-turned : goal.returns-in_err-next-in-Using-clause-turned
+returns-in_err-next-in-Using-clause-turned g c = fails_turned c.steps.invariant.here _ c.in_err-next-in-Using.ensures.kept c.from_residual-in_err-next-in-Using.result (search rules)
+
+pub returns-in_err-next-in-Using-clause-failed : goal.returns-in_err-next-in-Using-clause-failed
+returns-in_err-next-in-Using-clause-failed g c = passed_on _ c.from_residual-in_err-next-in-Using.result (fails_failed c.steps.invariant.here _ c.in_err-next-in-Using.ensures.kept starves_alone c.steps.invariant.narrows.may_end) c.from_residual-in_err-next-in-Using.ensures
+
+pub steps-preserved-in-Using : goal.steps-preserved-in-Using
+steps-preserved-in-Using g c = record {
+  narrows = c.steps.invariant.narrows;
+  here = goes_moves c.steps.invariant.narrows.legal c.steps.frames c.steps.next _ (tasks.Using c.in-Using.used) _ (task_is c.in-Goes.is c.in-Using.is) c.steps.invariant.here c.in_ok-next-in-Using.ensures.step;
+  first = c.steps.invariant.first;
+}
+
+pub steps-smaller-in-Using : goal.steps-smaller-in-Using
+steps-smaller-in-Using g c = goes_lowers c.steps.frames c.steps.next _ (tasks.Using c.in-Using.used) (task_is c.in-Goes.is c.in-Using.is) (driven (g.D.Driver.legal c.args.driver.now) c.in_ok-next-in-Using.ensures.step)
+
 pub returns-in_err-next-in_default-clause-turned : goal.returns-in_err-next-in_default-clause-turned
 returns-in_err-next-in_default-clause-turned g c = fails_turned c.steps.invariant.here _ c.in_err-next-in_default.ensures.kept c.from_residual-in_err-next-in_default.result (search rules)
 
