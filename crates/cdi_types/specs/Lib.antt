@@ -11,3 +11,4 @@ pub mod Lineage
 pub mod Nodes
 pub mod Subtype
 pub mod Table
+pub mod Stops

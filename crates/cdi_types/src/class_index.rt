@@ -1,13 +1,14 @@
 //! The classes of a deployment by their names.
-ghost use Rattle.std.specs.Prelude.{◌≡◌, ◌==◌, ◌↔◌, ℕ, List, Some, position, nat_eq, map, slice_get, option_and_then, IfOk, IsTrue};
+ghost use Rattle.std.specs.Prelude.{◌≡◌, ◌≢◌, ◌==◌, ◌↔◌, ℕ, List, Some, position, nat_eq, map, slice_get, option_and_then, IfOk, IsTrue, MatchOption};
 ghost use Rattle.std.specs.HashMap.{get};
 ghost use Rattle.std.specs.Option.{option_copied};
 ghost use Rattle.cdi_types.specs.Line.{class_named, place_named, place_of_superclass, superclass_at, IsLineOf};
 ghost use Rattle.cdi_types.specs.Nodes.{place_of};
-ghost use Rattle.cdi_types.specs.Subtype.{IsAcyclic};
+ghost use Rattle.cdi_types.specs.Subtype.{IsAcyclic, object};
+ghost use Rattle.cdi_types.specs.Stops.{IsStop, IsStopAbove};
 
 use crate::graph::TypeGraph;
-use crate::line::ClassLine;
+use crate::line::{ClassLine, in_reverse};
 use crate::table::TypeTable;
 use cdi_base::{BuiltIn, Name, Seq};
 use cdi_deployment::Class;
@@ -76,6 +77,29 @@ fn places_above(
     Ok(above)
 }
 
+/// A name on the way up a line, with the place of its first declaration and that of its first class.
+#[derive(Clone, Copy)]
+struct Stop {
+    name: Name,
+    place: Option<usize>,
+    class_place: Option<usize>,
+}
+
+/// The way goes on from a name, unless that is `Object`.
+fn stop_at(name: Name, place: Option<usize>, class_place: Option<usize>) -> Option<Stop>
+    ensures { MatchOption result (name ≡ object) (λ stop. (name ≢ object) × (stop
+        ≡ record { name = name; place = place; class_place = class_place })) }
+{
+    if name == BuiltIn::Object.name() {
+        return None;
+    }
+    Some(Stop {
+        name,
+        place,
+        class_place,
+    })
+}
+
 impl<'a> ClassIndex<'a> {
     /// The classes of a deployment.
     pub fn build(alloc: Global, classes: &'a [Class]) -> Result<ClassIndex<'a>, AllocError>
@@ -138,8 +162,17 @@ impl<'a> ClassIndex<'a> {
         }
     }
 
-    /// The classes of the lineage of a name, the topmost first, by the place of its first declaration and that of its first class. It
-    /// recurses as deep as there are superclasses.
+    /// The next name on the way up, if a class is extended that isn't `Object`.
+    fn above(&self, graph: &TypeGraph, stop: Stop) -> Option<Stop>
+        requires { IsStop graph.now self.now stop }
+        ensures { IsStopAbove graph.now self.now stop.name result }
+    {
+        let name = graph.superclass_from(stop.place)?;
+        let place = graph.superclass_place_from(stop.place);
+        stop_at(name, place, self.superclass_place(stop.class_place, name))
+    }
+
+    /// The classes of the lineage of a name, the topmost first, by the place of its first declaration and that of its first class.
     fn line_from(
         &self,
         alloc: Global,
@@ -154,23 +187,15 @@ impl<'a> ClassIndex<'a> {
         ensures { IfOk result
             (λ line. IsLineOf graph.now self.now name (map (λ c. c.now) line)) }
     {
-        if name == BuiltIn::Object.name() {
-            return Ok(Seq::empty(alloc));
+        let mut found = Seq::empty(alloc);
+        let mut next = stop_at(name, place, class_place);
+        while let Some(stop) = next {
+            if let Some(class) = self.at(stop.class_place) {
+                found.push(class)?;
+            }
+            next = self.above(graph, stop);
         }
-        let mut line = match graph.superclass_from(place) {
-            Some(above) => self.line_from(
-                alloc,
-                graph,
-                above,
-                graph.superclass_place_from(place),
-                self.superclass_place(class_place, above),
-            )?,
-            None => Seq::empty(alloc),
-        };
-        if let Some(class) = self.at(class_place) {
-            line.push(class)?;
-        }
-        Ok(line)
+        Ok(in_reverse(found))
     }
 
     /// The class of a name with its superclasses below `Object`, the topmost first. A name that no class has is passed over, so

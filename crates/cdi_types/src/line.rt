@@ -93,7 +93,7 @@ fn add_members_of_kind<'a>(
 }
 
 /// What was found, the other way round.
-fn in_reverse<T>(found: Seq<T>) -> Seq<T>
+pub(crate) fn in_reverse<T>(found: Seq<T>) -> Seq<T>
     ensures { result ≡ reverse found }
 {
     let mut items = found.into_vec();
