@@ -8,9 +8,9 @@ ghost use Rattle.cdi_steps.specs.Known.{JobTellsRightly};
 ghost use Rattle.cdi_steps.specs.Words.{command_of, use_command};
 ghost use Rattle.cdi_steps.specs.declared.task.BeanPurpose.TheVariants as purposes;
 
-use crate::copies::copy_of;
+use crate::copies::{copy_of, copy_of_names};
 use cdi_base::{Command, MemberValue, Names, Seq, Text, Use, Value, WrittenMember, WrittenUse};
-use cdi_steps::{BeanPurpose, BeanUse, Event, Job, RequestNames};
+use cdi_steps::{BeanPurpose, BeanUse, Event, Job};
 use std::alloc::{AllocError, Global};
 
 fn member_for(names: &Names, written: &WrittenMember) -> Result<MemberValue, AllocError>
@@ -142,22 +142,6 @@ fn use_job(
     })
 }
 
-/// The names of a request that begins, and of its session.
-fn names_of(
-    alloc: Global,
-    request: &Text,
-    session: &Option<Text>,
-) -> Result<Box<RequestNames>, AllocError>
-    ensures { IfOk result (λ names. names.value
-        ≡ record { request = request.now; session = session.now }) }
-{
-    let names = RequestNames {
-        request: request.clone()?,
-        session: copy_of(session)?,
-    };
-    Ok(Box::new(alloc, names)?)
-}
-
 /// What a command asks the engine for, with the names of the deployment. What the use of a bean resolves to isn't told yet.
 pub(crate) fn job_for(alloc: Global, names: &Names, command: &Command) -> Result<Job, AllocError>
     ensures command { IfOk result (λ job.
@@ -166,7 +150,7 @@ pub(crate) fn job_for(alloc: Global, names: &Names, command: &Command) -> Result
 {
     match command {
         Command::Begin { request, session } => {
-            Ok(Job::Begin(names_of(alloc, request, session)?))
+            Ok(Job::Begin(copy_of_names(alloc, request, session)?))
         }
         Command::Call {
             request,

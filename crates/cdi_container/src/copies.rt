@@ -53,13 +53,18 @@ fn copy_of_event(alloc: Global, event: &Event) -> Result<Box<Event>, AllocError>
     Ok(Box::new(alloc, copy)?)
 }
 
-/// A copy of the names of a request and its session.
-fn copy_of_names(alloc: Global, names: &RequestNames) -> Result<Box<RequestNames>, AllocError>
-    ensures { IfOk result (λ copy. copy.value ≡ names.now) }
+/// The names of a request that begins, and of its session, in a copy.
+pub(crate) fn copy_of_names(
+    alloc: Global,
+    request: &Text,
+    session: &Option<Text>,
+) -> Result<Box<RequestNames>, AllocError>
+    ensures { IfOk result (λ copy. copy.value
+        ≡ record { request = request.now; session = session.now }) }
 {
     let copy = RequestNames {
-        request: names.request.clone()?,
-        session: copy_of(&names.session)?,
+        request: request.clone()?,
+        session: copy_of(session)?,
     };
     Ok(Box::new(alloc, copy)?)
 }
@@ -72,7 +77,9 @@ pub(crate) fn copy_of_job(alloc: Global, job: &Job) -> Result<Job, AllocError>
 {
     match job {
         Job::Boot => Ok(Job::Boot),
-        Job::Begin(names) => Ok(Job::Begin(copy_of_names(alloc, names)?)),
+        Job::Begin(names) => {
+            Ok(Job::Begin(copy_of_names(alloc, &names.request, &names.session)?))
+        }
         Job::End { request } => Ok(Job::End {
             request: request.clone()?,
         }),
