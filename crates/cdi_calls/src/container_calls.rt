@@ -131,7 +131,7 @@ fn invoke<T: Tables, W: Contents>(
 {
     let alloc = world.alloc();
     let ContainerCall { callee, args, .. } = Box::into_inner(call);
-    let members = Members::one(code, alloc);
+    let members = Members::one(code);
     let parameters = CallParameters {
         callee,
         references: Seq::empty(alloc),

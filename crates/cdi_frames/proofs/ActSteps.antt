@@ -23,7 +23,7 @@ use Rattle.cdi_machine.specs.Programs.{Given, Result, Prog, ret, nested, require
 use Rattle.cdi_machine.specs.Contexts.{reach_instance}
 use Rattle.cdi_machine.specs.Bodies.{perform, reference_at, value_at, with_answer}
 use Rattle.cdi_host.specs.Asked.{top_of}
-use Rattle.cdi_steps.specs.Meanings.{node, go_on_with, use_instance, use_reference, around, waits}
+use Rattle.cdi_steps.specs.Meanings.{node, go_on_with, use_instance}
 use Rattle.cdi_steps.specs.Leads.{next_stop, after_steps, Comes}
 use Rattle.cdi_steps.proofs.Ways.{ComesTo, StopsAs}
 use Rattle.cdi_steps.specs.declared.task.Call.TheVariants as calls

@@ -46,6 +46,9 @@ task_is e f = e ∙ ap nexts.Goes f
 pub call_is : {now : Next} {p : Task} {c d : Call} → now ≡ nexts.Goes p → p ≡ tasks.Start c → c ≡ d → now ≡ nexts.Goes (tasks.Start d)
 call_is e f h = e ∙ ap nexts.Goes (f ∙ ap tasks.Start h)
 
+pub entry_is : {now : Next} {e : Entry} {x y : Continuation} → now ≡ nexts.Writes e x → x ≡ y → now ≡ nexts.Writes e y
+entry_is {e = e} i f = i ∙ ap (nexts.Writes e) f
+
 -- From this stack and world, where the driver had been through that, steps have led here.
 pub record IsUnderWay (t : Tables) (legal : Legal) (before : Hearing → Type 0) (most : ℕ) (a : Stack) (w : World)
     (b : Stack) (heard : Hearing → Type 0) (u : World) : Type 0 where

@@ -11,14 +11,14 @@ ghost use Rattle.cdi_frames.specs.Hearing.{Noted, ToldIf, HearsTurn, HearsOutcom
 use crate::passing::passes;
 use crate::resume::resume;
 use crate::stack::{Stack, Turn};
-use crate::step::{bodies, entries, start, step};
+use crate::step::{bodies, commands, entries, start, step};
 use cdi_base::{Cause, Entry};
 use cdi_calls::references;
 use cdi_host::{Contents, Stack as Waiting, Tables};
 use cdi_machine::{Driver, Failure};
 use cdi_steps::ends::cut;
 use cdi_steps::task::{Call, Continuation, Frame, Next, Task};
-use cdi_steps::{Outcome, chains, creation, destruction};
+use cdi_steps::{Outcome, chains, creation, destruction, obtaining};
 use std::alloc::AllocError;
 
 /// Writes an entry of which the driver is told, if the command may have one more. An error comes from the driver, or memory is
@@ -130,6 +130,8 @@ pub fn turn<T: Tables, D: Driver, W: Contents>(
                     left,
                 } => next = creation::creating(tables, world, number, component, left)?,
                 Task::Through(used) => next = references::through(tables, world, used)?,
+                Task::Begin(job) => next = commands::begin(tables, world, job)?,
+                Task::Using(used) => next = obtaining::using(tables, world, used)?,
                 task => next = step(tables, driver, world, task)?,
             },
             Next::Needs(task, frame) => {
@@ -152,7 +154,15 @@ pub fn turn<T: Tables, D: Driver, W: Contents>(
                     return Ok(Turn::Running(Stack::due(frames, entry, continuation)));
                 }
                 if write(driver, world, entry)? {
-                    next = entries::go_on(tables, world, continuation)?;
+                    match continuation {
+                        Continuation::Starting(running) => {
+                            next = bodies::start(tables, world, running)?
+                        }
+                        Continuation::Performing(performance) => {
+                            next = bodies::perform(tables, world, performance)?
+                        }
+                        continuation => next = entries::go_on(tables, world, continuation)?,
+                    }
                 } else {
                     next = cut_before(continuation);
                 }

@@ -1,5 +1,5 @@
 -- What is asked of the tables and of the world, as the definition has it.
-use Rattle.std.specs.Prelude.{ℕ, ◌^◌, ◌<◌, List, [], ◌∷◌, ◌≡◌, ◌-◌, length, drop, is_some, map, Bool, true, false, Option, Some, None, nat_lt, option_map, option_and_then}
+use Rattle.std.specs.Prelude.{ℕ, ◌^◌, ◌<◌, List, [], ◌∷◌, ◌-◌, length, drop, is_some, map, Bool, true, false, Option, Some, None, nat_lt, option_map, option_and_then}
 use Rattle.cdi_base.specs.declared.place.InterceptorMethod.{InterceptorMethod}
 use Rattle.cdi_base.specs.declared.place.Place.TheVariants as places
 use Rattle.cdi_base.specs.declared.scope.Scope.{Scope}

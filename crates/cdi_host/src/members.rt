@@ -1,20 +1,24 @@
 //! The bodies at the end of a chain.
-ghost use Rattle.std.specs.Prelude.{◌≡◌, ◌∷◌, [], None, Some};
-ghost use Rattle.cdi_host.specs.Members.{members_in};
+ghost use Rattle.std.specs.Prelude.{◌≡◌, ◌∷◌, []};
 
 use cdi_base::Seq;
 use cdi_machine::Code;
-use std::alloc::Global;
 use std::marker::Model;
 use std::slice;
 
-/// The bodies at the end of a chain, in the order in which they run, which contracts see as a list: a business method's one, which
-/// needs no memory of its own, or any number of callbacks.
+/// The bodies at the end of a chain, in the order in which they run, which contracts see as a list.
 #[derive(Drop)]
 pub struct Members {
-    only: Option<Code>,
-    /// All of them, if there isn't only one.
-    all: Seq<Code>,
+    kept: Kept,
+}
+
+/// How they are kept.
+#[derive(Drop)]
+enum Kept {
+    /// A business method's one, which needs no memory of its own.
+    One(Code),
+    /// Any number of callbacks.
+    Any(Seq<Code>),
 }
 
 impl Model for Members {
@@ -24,17 +28,16 @@ impl Model for Members {
 
     ghost Value = { List AnyCode };
 
-    ghost view = { λ m. members_in m.only m.all };
+    ghost view = { λ m. members_in m.kept };
 }
 
 impl Members {
     /// One body alone.
-    pub fn one(code: Code, alloc: Global) -> Members
+    pub fn one(code: Code) -> Members
         ensures { result ≡ code ∷ [] }
     {
         Members {
-            only: Some(code),
-            all: Seq::empty(alloc),
+            kept: Kept::One(code),
         }
     }
 
@@ -43,8 +46,7 @@ impl Members {
         ensures { result ≡ codes }
     {
         Members {
-            only: None,
-            all: codes,
+            kept: Kept::Any(codes),
         }
     }
 
@@ -52,9 +54,9 @@ impl Members {
     pub fn as_slice(&self) -> &[Code]
         ensures { result.now ≡ self.now }
     {
-        match &self.only {
-            Some(code) => slice::from_ref(code),
-            None => self.all.as_slice(),
+        match &self.kept {
+            Kept::One(code) => slice::from_ref(code),
+            Kept::Any(codes) => codes.as_slice(),
         }
     }
 }

@@ -19,7 +19,7 @@ use std::alloc::{AllocError, Global};
 
 /// Begins what a command asks for: for the boot, the event of the application's begin (Jakarta CDI 4.0, *Context
 /// management for built-in scopes*). On an error nothing changes.
-pub(super) fn begin<T: Tables, W: Contents>(
+pub(crate) fn begin<T: Tables, W: Contents>(
     tables: &T,
     world: &mut W,
     job: Job,

@@ -2,11 +2,12 @@ use Rattle.std.proofs.Common.{◌∙◌, rules, refl}
 use Rattle.cdi_steps.proofs.Driving.{narrows_self, narrows_trans, still_drives, passed_on, starves_alone}
 use Rattle.cdi_steps.proofs.Made.{driven}
 use Rattle.cdi_steps.specs.declared.task.Call.TheVariants as calls
+use Rattle.cdi_steps.specs.declared.task.Continuation.TheVariants as continuations
 use Rattle.cdi_steps.specs.declared.task.Task.TheVariants as tasks
 use Rattle.cdi_frames.specs.Stacks.{Steps}
 use Rattle.cdi_frames.proofs.Loads.{grown_same}
 use Rattle.cdi_frames.proofs.Hearing.{hears_here}
-use Rattle.cdi_frames.proofs.Turning.{task_is, call_is, goes_done, goes_moves, needs_done, frame_done, entry_done, entry_full, follows_done, over_turned, over_hears, fails_turned, fails_failed, goes_lowers, needs_lowers, frame_lowers, entry_lowers, full_lowers}
+use Rattle.cdi_frames.proofs.Turning.{task_is, call_is, entry_is, goes_done, goes_moves, needs_done, frame_done, entry_done, entry_full, follows_done, over_turned, over_hears, fails_turned, fails_failed, goes_lowers, needs_lowers, frame_lowers, entry_lowers, full_lowers}
 use Rattle.cdi_frames.proofs.run.turn.Goals as goal
 
 pub steps-init : goal.steps-init
@@ -158,6 +159,38 @@ steps-preserved-in-Through g c = record {
 pub steps-smaller-in-Through : goal.steps-smaller-in-Through
 steps-smaller-in-Through g c = goes_lowers c.steps.frames c.steps.next _ (tasks.Through c.in-Through.used) (task_is c.in-Goes.is c.in-Through.is) (driven (g.D.Driver.legal c.args.driver.now) c.in_ok-next-in-Through.ensures.step)
 
+pub returns-in_err-next-in-Begin-clause-turned : goal.returns-in_err-next-in-Begin-clause-turned
+returns-in_err-next-in-Begin-clause-turned g c = fails_turned c.steps.invariant.here _ c.in_err-next-in-Begin.ensures.kept c.from_residual-in_err-next-in-Begin.result (search rules)
+
+pub returns-in_err-next-in-Begin-clause-failed : goal.returns-in_err-next-in-Begin-clause-failed
+returns-in_err-next-in-Begin-clause-failed g c = passed_on _ c.from_residual-in_err-next-in-Begin.result (fails_failed c.steps.invariant.here _ c.in_err-next-in-Begin.ensures.kept starves_alone c.steps.invariant.narrows.may_end) c.from_residual-in_err-next-in-Begin.ensures
+
+pub steps-preserved-in-Begin : goal.steps-preserved-in-Begin
+steps-preserved-in-Begin g c = record {
+  narrows = c.steps.invariant.narrows;
+  here = goes_moves c.steps.invariant.narrows.legal c.steps.frames c.steps.next _ (tasks.Begin c.in-Begin.job) _ (task_is c.in-Goes.is c.in-Begin.is) c.steps.invariant.here c.in_ok-next-in-Begin.ensures.step;
+  first = c.steps.invariant.first;
+}
+
+pub steps-smaller-in-Begin : goal.steps-smaller-in-Begin
+steps-smaller-in-Begin g c = goes_lowers c.steps.frames c.steps.next _ (tasks.Begin c.in-Begin.job) (task_is c.in-Goes.is c.in-Begin.is) (driven (g.D.Driver.legal c.args.driver.now) c.in_ok-next-in-Begin.ensures.step)
+
+pub returns-in_err-next-in-Using-clause-turned : goal.returns-in_err-next-in-Using-clause-turned
+returns-in_err-next-in-Using-clause-turned g c = fails_turned c.steps.invariant.here _ c.in_err-next-in-Using.ensures.kept c.from_residual-in_err-next-in-Using.result (search rules)
+
+pub returns-in_err-next-in-Using-clause-failed : goal.returns-in_err-next-in-Using-clause-failed
+returns-in_err-next-in-Using-clause-failed g c = passed_on _ c.from_residual-in_err-next-in-Using.result (fails_failed c.steps.invariant.here _ c.in_err-next-in-Using.ensures.kept starves_alone c.steps.invariant.narrows.may_end) c.from_residual-in_err-next-in-Using.ensures
+
+pub steps-preserved-in-Using : goal.steps-preserved-in-Using
+steps-preserved-in-Using g c = record {
+  narrows = c.steps.invariant.narrows;
+  here = goes_moves c.steps.invariant.narrows.legal c.steps.frames c.steps.next _ (tasks.Using c.in-Using.used) _ (task_is c.in-Goes.is c.in-Using.is) c.steps.invariant.here c.in_ok-next-in-Using.ensures.step;
+  first = c.steps.invariant.first;
+}
+
+pub steps-smaller-in-Using : goal.steps-smaller-in-Using
+steps-smaller-in-Using g c = goes_lowers c.steps.frames c.steps.next _ (tasks.Using c.in-Using.used) (task_is c.in-Goes.is c.in-Using.is) (driven (g.D.Driver.legal c.args.driver.now) c.in_ok-next-in-Using.ensures.step)
+
 pub returns-in_err-next-in_default-clause-turned : goal.returns-in_err-next-in_default-clause-turned
 returns-in_err-next-in_default-clause-turned g c = fails_turned c.steps.invariant.here _ c.in_err-next-in_default.ensures.kept c.from_residual-in_err-next-in_default.result (search rules)
 
@@ -234,23 +267,59 @@ returns-in_err-write-in-Writes-clause-turned g c = fails_turned c.steps.invarian
 pub returns-in_err-write-in-Writes-clause-failed : goal.returns-in_err-write-in-Writes-clause-failed
 returns-in_err-write-in-Writes-clause-failed g c = passed_on _ c.from_residual-in_err-write-in-Writes.result (fails_failed c.steps.invariant.here _ c.in_err-write-in-Writes.ensures.kept c.in_err-write-in-Writes.ensures.failed c.steps.invariant.narrows.may_end) c.from_residual-in_err-write-in-Writes.ensures
 
-pub returns-in_err-next-in-Writes-clause-turned : goal.returns-in_err-next-in-Writes-clause-turned
-returns-in_err-next-in-Writes-clause-turned g c =
-    fails_turned (entry_done c.steps.invariant.narrows.legal c.entries-first.result c.steps.frames c.steps.next c.in-Writes.entry c.in-Writes.continuation _ c.in-Writes.is c.steps.invariant.here c.steps.invariant.first (c.if-not-has_room.ensures.room refl) (rw c.if-branch.true at c.in_ok-write-in-Writes.ensures.noted) (rw c.if-branch.true at c.in_ok-write-in-Writes.ensures.told)) _ c.in_err-next-in-Writes.ensures.kept c.from_residual-in_err-next-in-Writes.result (search rules)
+pub returns-in_err-next-in-Starting-clause-turned : goal.returns-in_err-next-in-Starting-clause-turned
+returns-in_err-next-in-Starting-clause-turned g c =
+    fails_turned (entry_done c.steps.invariant.narrows.legal c.entries-first.result c.steps.frames c.steps.next c.in-Writes.entry (continuations.Starting c.in-Starting.running) _ (entry_is c.in-Writes.is c.in-Starting.is) c.steps.invariant.here c.steps.invariant.first (c.if-not-has_room.ensures.room refl) (rw c.if-branch.true at c.in_ok-write-in-Writes.ensures.noted) (rw c.if-branch.true at c.in_ok-write-in-Writes.ensures.told)) _ c.in_err-next-in-Starting.ensures.kept c.from_residual-in_err-next-in-Starting.result (search rules)
 
-pub returns-in_err-next-in-Writes-clause-failed : goal.returns-in_err-next-in-Writes-clause-failed
-returns-in_err-next-in-Writes-clause-failed g c =
-    passed_on _ c.from_residual-in_err-next-in-Writes.result (fails_failed (entry_done c.steps.invariant.narrows.legal c.entries-first.result c.steps.frames c.steps.next c.in-Writes.entry c.in-Writes.continuation _ c.in-Writes.is c.steps.invariant.here c.steps.invariant.first (c.if-not-has_room.ensures.room refl) (rw c.if-branch.true at c.in_ok-write-in-Writes.ensures.noted) (rw c.if-branch.true at c.in_ok-write-in-Writes.ensures.told)) _ c.in_err-next-in-Writes.ensures.kept starves_alone (narrows_trans c.steps.invariant.narrows c.in_ok-write-in-Writes.ensures.narrows).may_end) c.from_residual-in_err-next-in-Writes.ensures
+pub returns-in_err-next-in-Starting-clause-failed : goal.returns-in_err-next-in-Starting-clause-failed
+returns-in_err-next-in-Starting-clause-failed g c =
+    passed_on _ c.from_residual-in_err-next-in-Starting.result (fails_failed (entry_done c.steps.invariant.narrows.legal c.entries-first.result c.steps.frames c.steps.next c.in-Writes.entry (continuations.Starting c.in-Starting.running) _ (entry_is c.in-Writes.is c.in-Starting.is) c.steps.invariant.here c.steps.invariant.first (c.if-not-has_room.ensures.room refl) (rw c.if-branch.true at c.in_ok-write-in-Writes.ensures.noted) (rw c.if-branch.true at c.in_ok-write-in-Writes.ensures.told)) _ c.in_err-next-in-Starting.ensures.kept starves_alone (narrows_trans c.steps.invariant.narrows c.in_ok-write-in-Writes.ensures.narrows).may_end) c.from_residual-in_err-next-in-Starting.ensures
 
-pub steps-preserved-then-branch : goal.steps-preserved-then-branch
-steps-preserved-then-branch g c = record {
+pub steps-preserved-in-Starting : goal.steps-preserved-in-Starting
+steps-preserved-in-Starting g c = record {
   narrows = narrows_trans c.steps.invariant.narrows c.in_ok-write-in-Writes.ensures.narrows;
-  here = follows_done c.steps.invariant.narrows.legal c.steps.frames _ c.in-Writes.continuation _ (entry_done c.steps.invariant.narrows.legal c.entries-first.result c.steps.frames c.steps.next c.in-Writes.entry c.in-Writes.continuation _ c.in-Writes.is c.steps.invariant.here c.steps.invariant.first (c.if-not-has_room.ensures.room refl) (rw c.if-branch.true at c.in_ok-write-in-Writes.ensures.noted) (rw c.if-branch.true at c.in_ok-write-in-Writes.ensures.told)) c.in_ok-next-in-Writes.ensures.step;
+  here = follows_done c.steps.invariant.narrows.legal c.steps.frames _ (continuations.Starting c.in-Starting.running) _ (entry_done c.steps.invariant.narrows.legal c.entries-first.result c.steps.frames c.steps.next c.in-Writes.entry (continuations.Starting c.in-Starting.running) _ (entry_is c.in-Writes.is c.in-Starting.is) c.steps.invariant.here c.steps.invariant.first (c.if-not-has_room.ensures.room refl) (rw c.if-branch.true at c.in_ok-write-in-Writes.ensures.noted) (rw c.if-branch.true at c.in_ok-write-in-Writes.ensures.told)) c.in_ok-next-in-Starting.ensures.step;
   first = c.steps.invariant.first;
 }
 
-pub steps-smaller-then-branch : goal.steps-smaller-then-branch
-steps-smaller-then-branch g c = entry_lowers c.steps.frames c.steps.next _ c.in-Writes.entry c.in-Writes.continuation c.in-Writes.is (rw c.if-branch.true at c.in_ok-write-in-Writes.ensures.noted) c.in_ok-next-in-Writes.ensures.step
+pub steps-smaller-in-Starting : goal.steps-smaller-in-Starting
+steps-smaller-in-Starting g c = entry_lowers c.steps.frames c.steps.next _ c.in-Writes.entry (continuations.Starting c.in-Starting.running) (entry_is c.in-Writes.is c.in-Starting.is) (rw c.if-branch.true at c.in_ok-write-in-Writes.ensures.noted) c.in_ok-next-in-Starting.ensures.step
+
+pub returns-in_err-next-in-Performing-clause-turned : goal.returns-in_err-next-in-Performing-clause-turned
+returns-in_err-next-in-Performing-clause-turned g c =
+    fails_turned (entry_done c.steps.invariant.narrows.legal c.entries-first.result c.steps.frames c.steps.next c.in-Writes.entry (continuations.Performing c.in-Performing.performance) _ (entry_is c.in-Writes.is c.in-Performing.is) c.steps.invariant.here c.steps.invariant.first (c.if-not-has_room.ensures.room refl) (rw c.if-branch.true at c.in_ok-write-in-Writes.ensures.noted) (rw c.if-branch.true at c.in_ok-write-in-Writes.ensures.told)) _ c.in_err-next-in-Performing.ensures.kept c.from_residual-in_err-next-in-Performing.result (search rules)
+
+pub returns-in_err-next-in-Performing-clause-failed : goal.returns-in_err-next-in-Performing-clause-failed
+returns-in_err-next-in-Performing-clause-failed g c =
+    passed_on _ c.from_residual-in_err-next-in-Performing.result (fails_failed (entry_done c.steps.invariant.narrows.legal c.entries-first.result c.steps.frames c.steps.next c.in-Writes.entry (continuations.Performing c.in-Performing.performance) _ (entry_is c.in-Writes.is c.in-Performing.is) c.steps.invariant.here c.steps.invariant.first (c.if-not-has_room.ensures.room refl) (rw c.if-branch.true at c.in_ok-write-in-Writes.ensures.noted) (rw c.if-branch.true at c.in_ok-write-in-Writes.ensures.told)) _ c.in_err-next-in-Performing.ensures.kept starves_alone (narrows_trans c.steps.invariant.narrows c.in_ok-write-in-Writes.ensures.narrows).may_end) c.from_residual-in_err-next-in-Performing.ensures
+
+pub steps-preserved-in-Performing : goal.steps-preserved-in-Performing
+steps-preserved-in-Performing g c = record {
+  narrows = narrows_trans c.steps.invariant.narrows c.in_ok-write-in-Writes.ensures.narrows;
+  here = follows_done c.steps.invariant.narrows.legal c.steps.frames _ (continuations.Performing c.in-Performing.performance) _ (entry_done c.steps.invariant.narrows.legal c.entries-first.result c.steps.frames c.steps.next c.in-Writes.entry (continuations.Performing c.in-Performing.performance) _ (entry_is c.in-Writes.is c.in-Performing.is) c.steps.invariant.here c.steps.invariant.first (c.if-not-has_room.ensures.room refl) (rw c.if-branch.true at c.in_ok-write-in-Writes.ensures.noted) (rw c.if-branch.true at c.in_ok-write-in-Writes.ensures.told)) c.in_ok-next-in-Performing.ensures.step;
+  first = c.steps.invariant.first;
+}
+
+pub steps-smaller-in-Performing : goal.steps-smaller-in-Performing
+steps-smaller-in-Performing g c = entry_lowers c.steps.frames c.steps.next _ c.in-Writes.entry (continuations.Performing c.in-Performing.performance) (entry_is c.in-Writes.is c.in-Performing.is) (rw c.if-branch.true at c.in_ok-write-in-Writes.ensures.noted) c.in_ok-next-in-Performing.ensures.step
+
+pub returns-in_err-next-in_default-continuation-clause-turned : goal.returns-in_err-next-in_default-continuation-clause-turned
+returns-in_err-next-in_default-continuation-clause-turned g c =
+    fails_turned (entry_done c.steps.invariant.narrows.legal c.entries-first.result c.steps.frames c.steps.next c.in-Writes.entry c.in-Writes.continuation _ c.in-Writes.is c.steps.invariant.here c.steps.invariant.first (c.if-not-has_room.ensures.room refl) (rw c.if-branch.true at c.in_ok-write-in-Writes.ensures.noted) (rw c.if-branch.true at c.in_ok-write-in-Writes.ensures.told)) _ c.in_err-next-in_default-continuation.ensures.kept c.from_residual-in_err-next-in_default-continuation.result (search rules)
+
+pub returns-in_err-next-in_default-continuation-clause-failed : goal.returns-in_err-next-in_default-continuation-clause-failed
+returns-in_err-next-in_default-continuation-clause-failed g c =
+    passed_on _ c.from_residual-in_err-next-in_default-continuation.result (fails_failed (entry_done c.steps.invariant.narrows.legal c.entries-first.result c.steps.frames c.steps.next c.in-Writes.entry c.in-Writes.continuation _ c.in-Writes.is c.steps.invariant.here c.steps.invariant.first (c.if-not-has_room.ensures.room refl) (rw c.if-branch.true at c.in_ok-write-in-Writes.ensures.noted) (rw c.if-branch.true at c.in_ok-write-in-Writes.ensures.told)) _ c.in_err-next-in_default-continuation.ensures.kept starves_alone (narrows_trans c.steps.invariant.narrows c.in_ok-write-in-Writes.ensures.narrows).may_end) c.from_residual-in_err-next-in_default-continuation.ensures
+
+pub steps-preserved-in_default-continuation : goal.steps-preserved-in_default-continuation
+steps-preserved-in_default-continuation g c = record {
+  narrows = narrows_trans c.steps.invariant.narrows c.in_ok-write-in-Writes.ensures.narrows;
+  here = follows_done c.steps.invariant.narrows.legal c.steps.frames _ c.in-Writes.continuation _ (entry_done c.steps.invariant.narrows.legal c.entries-first.result c.steps.frames c.steps.next c.in-Writes.entry c.in-Writes.continuation _ c.in-Writes.is c.steps.invariant.here c.steps.invariant.first (c.if-not-has_room.ensures.room refl) (rw c.if-branch.true at c.in_ok-write-in-Writes.ensures.noted) (rw c.if-branch.true at c.in_ok-write-in-Writes.ensures.told)) c.in_ok-next-in_default-continuation.ensures.step;
+  first = c.steps.invariant.first;
+}
+
+pub steps-smaller-in_default-continuation : goal.steps-smaller-in_default-continuation
+steps-smaller-in_default-continuation g c = entry_lowers c.steps.frames c.steps.next _ c.in-Writes.entry c.in-Writes.continuation c.in-Writes.is (rw c.if-branch.true at c.in_ok-write-in-Writes.ensures.noted) c.in_ok-next-in_default-continuation.ensures.step
 
 -- and one that has no room
 
