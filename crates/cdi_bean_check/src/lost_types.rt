@@ -1,11 +1,11 @@
 //! Types that specialization loses.
-ghost use Rattle.std.specs.Prelude.{◌≡◌, ◌↔◌, IsTrue};
+ghost use Rattle.std.specs.Prelude.{◌≡◌, ◌↔◌, is_some, IsTrue};
 ghost use Rattle.cdi_bean_check.specs.BeanTypes as spec;
 
 use crate::bean_classes::BeanClasses;
 use crate::bean_types::is_type_of_class;
 use crate::specialization::says_specializes;
-use cdi_base::Name;
+use cdi_base::{BuiltIn, Name};
 use cdi_deployment::Class;
 use cdi_problems::{Element, Rule};
 use cdi_types::TypeTable;
@@ -26,11 +26,38 @@ fn is_lost(types: &TypeTable, specialized: &Class, class: &Class, ty: Name) -> b
     is_type_of_class(types, specialized, ty) && !is_type_of_class(types, class, ty)
 }
 
-/// Whether a class lacks a bean type of another.
+/// Whether the bean types of a class are restricted (Jakarta CDI 4.0, *Restricting the bean types of a bean*).
+fn is_restricted(class: &Class) -> bool
+    ensures { result ≡ is_some (spec.restriction class.now.bean) }
+{
+    match &class.bean {
+        Some(bean) => bean.typed.is_some(),
+        None => false,
+    }
+}
+
+/// Whether a class has all bean types of another for a reason that can be seen at once: it is below it, and has all types that it
+/// can have.
+fn keeps_types_of(types: &TypeTable, specialized: &Class, class: &Class) -> bool
+    ensures { IsTrue result → spec.LacksTypeOf types.now specialized.now class.now → ⊥ }
+{
+    if is_restricted(class) {
+        return false;
+    }
+    if specialized.name == BuiltIn::Object.name() {
+        return false;
+    }
+    types.is_subtype(class.name, specialized.name)
+}
+
+/// Whether a class lacks a bean type of another. It looks at each type, unless the class keeps them all.
 fn lacks_type_of(types: &TypeTable, specialized: &Class, class: &Class) -> bool
     ensures { IsTrue result ↔ spec.LacksTypeOf types.now specialized.now class.now }
 {
     types.law_sound();
+    if keeps_types_of(types, specialized, class) {
+        return false;
+    }
     if is_lost(types, specialized, class, specialized.name) {
         return true;
     }
