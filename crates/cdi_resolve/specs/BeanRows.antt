@@ -5,13 +5,20 @@ use Rattle.std.specs.List.{list_any, filter_map}
 use Rattle.cdi_beans.specs.declared.bean.Bean.{Bean}
 use Rattle.cdi_resolve.specs.BeanKeys.{same_key, having_key}
 use Rattle.cdi_resolve.specs.Filters.{enabled_beans}
+use Rattle.cdi_resolve.specs.TypeRows.{type_row}
 use Rattle.cdi_resolve.specs.declared.bean_key.BeanKey.{BeanKey}
+use Rattle.cdi_resolve.specs.declared.bean_key.BeanKey.TheVariants as keys
 use Rattle.cdi_resolve.specs.declared.bean_rows.BeanRows.{BeanRows}
 use Rattle.cdi_resolve.specs.declared.binding_flags.BindingFlags.{BindingFlags}
 
+-- the indices that stand at the key of a qualifier
+abbrev pub qualified_row : BeanRows → BeanKey → List ℕ
+qualified_row rows key = unwrap_or (get same_key rows.qualified key) []
+
 -- the indices that stand at a key
 abbrev pub row_of : BeanRows → BeanKey → List ℕ
-row_of rows key = unwrap_or (get same_key rows.rows key) []
+row_of rows (keys.Type name) = type_row rows.types name
+row_of rows (keys.Qualifier name digest) = qualified_row rows (keys.Qualifier name digest)
 
 abbrev pub is_bean : ℕ → Option ℕ → Bool
 is_bean bean None = false

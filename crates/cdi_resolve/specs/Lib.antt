@@ -8,3 +8,4 @@ pub mod Filters
 pub mod Narrowing
 pub mod Resolution
 pub mod WrittenUses
+pub mod TypeRows

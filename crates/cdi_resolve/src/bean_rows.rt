@@ -8,6 +8,7 @@ ghost use Rattle.cdi_resolve.specs.declared.bean_key.BeanKey.{BeanKey};
 
 use crate::bean_key::BeanKey;
 use crate::binding_flags::BindingFlags;
+use crate::type_rows::TypeRows;
 use cdi_base::{Name, Seq};
 use cdi_beans::Bean;
 use cdi_quals::Qualifier;
@@ -18,7 +19,9 @@ use std::rc::Rc;
 /// From each key to the enabled beans that have it, by their indices, in the order of the list.
 #[derive(Drop)]
 pub(crate) struct BeanRows {
-    rows: HashMap<BeanKey, Seq<usize>>,
+    types: TypeRows,
+    /// By the keys of qualifiers.
+    qualified: HashMap<BeanKey, Seq<usize>>,
 }
 
 /// What a list says of an index; what isn't there isn't enabled.
@@ -42,7 +45,7 @@ fn ends_in(row: &[usize], bean: usize) -> bool
 }
 
 /// Adds a bean at the end of a row, unless it is there.
-fn add_last(row: &mut Seq<usize>, bean: usize) -> Result<(), AllocError>
+pub(crate) fn add_last(row: &mut Seq<usize>, bean: usize) -> Result<(), AllocError>
     ensures { OnOk result (row.new ≡ spec.with_last row.old bean) }
 {
     if !ends_in(row.as_slice(), bean) {
@@ -103,19 +106,32 @@ fn keys_of(alloc: Global, flags: &BindingFlags, bean: &Bean) -> Result<Seq<BeanK
 }
 
 impl BeanRows {
+    /// Adds a bean at the end of the row of a qualifier's key, unless it is there.
+    fn add_qualified(&mut self, alloc: Global, key: BeanKey, bean: usize) -> Result<(), AllocError>
+        ensures types { OnOk result (self.new.types ≡ self.old.types) }
+        ensures qualified { OnOk result ((k : BeanKey) → spec.qualified_row self.new k
+            ≡ (if key_spec.same_key key k then spec.with_last (spec.qualified_row self.old k) bean
+            else spec.qualified_row self.old k)) }
+    {
+        if let Some(row) = self.qualified.get_mut(&key) {
+            return add_last(row, bean);
+        }
+        let mut row = Seq::empty(alloc);
+        row.push(bean)?;
+        self.qualified.insert(key, row)?;
+        Ok(())
+    }
+
     /// Adds a bean at the end of the row of a key, unless it is there.
     fn add(&mut self, alloc: Global, key: BeanKey, bean: usize) -> Result<(), AllocError>
         ensures { OnOk result ((k : BeanKey) → spec.row_of self.new k
             ≡ (if key_spec.same_key key k then spec.with_last (spec.row_of self.old k) bean
             else spec.row_of self.old k)) }
     {
-        if let Some(row) = self.rows.get_mut(&key) {
-            return add_last(row, bean);
+        match key {
+            BeanKey::Type(name) => self.types.add(alloc, name, bean),
+            BeanKey::Qualifier { .. } => self.add_qualified(alloc, key, bean),
         }
-        let mut row = Seq::empty(alloc);
-        row.push(bean)?;
-        self.rows.insert(key, row)?;
-        Ok(())
     }
 
     /// Adds a bean at the end of the rows of its keys, none of which has it.
@@ -139,7 +155,8 @@ impl BeanRows {
         ensures { IfOk result (spec.AreRowsOf flags.now beans.now enabled.now) }
     {
         let mut rows = BeanRows {
-            rows: HashMap::new(alloc),
+            types: TypeRows::none(alloc),
+            qualified: HashMap::new(alloc),
         };
         for (place, bean) in beans.iter().enumerate() {
             if has_flag(enabled, place) {
@@ -150,13 +167,23 @@ impl BeanRows {
         Ok(rows)
     }
 
+    /// The enabled beans that have the key of a qualifier, by their indices.
+    fn qualified_row(&self, key: &BeanKey) -> &[usize]
+        ensures { result.now ≡ spec.qualified_row self.now key.now }
+    {
+        match self.qualified.get(key) {
+            Some(row) => row.as_slice(),
+            None => &[],
+        }
+    }
+
     /// The enabled beans that have a key, by their indices.
     pub(crate) fn row(&self, key: &BeanKey) -> &[usize]
         ensures { result.now ≡ spec.row_of self.now key.now }
     {
-        match self.rows.get(key) {
-            Some(row) => row.as_slice(),
-            None => &[],
+        match key {
+            BeanKey::Type(name) => self.types.row(*name),
+            BeanKey::Qualifier { .. } => self.qualified_row(key),
         }
     }
 }

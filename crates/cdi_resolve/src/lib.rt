@@ -16,6 +16,7 @@ mod required;
 pub mod resolution;
 pub mod resolver;
 pub mod resolving;
+mod type_rows;
 mod written_uses;
 
 pub use bean_tables::BeanTables;

@@ -3,11 +3,11 @@ use Rattle.std.specs.HashMap.{get}
 use Rattle.cdi_resolve.specs.BeanKeys.{same_key}
 use Rattle.cdi_resolve.proofs.Keys.{same_key-true}
 use Rattle.cdi_resolve.proofs.Rows.{row_after}
-use Rattle.cdi_resolve.proofs.bean_rows.BeanRows.add.Goals as goal
+use Rattle.cdi_resolve.proofs.bean_rows.BeanRows.add_qualified.Goals as goal
 
-pub returns : goal.returns
-returns c = λ k.
-    let rows = c.args.self.now.rows in
+pub returns-clause-qualified : goal.returns-clause-qualified
+returns-clause-qualified c = λ k.
+    let rows = c.args.self.now.qualified in
     let key = c.args.key in
     let row = c.push.new.self in
     let same : get same_key c.get_mut.follows.lender-at-none k ≡ get same_key rows k = ap (λ m. get same_key m k) c.get_mut.follows.holds-at-none in
