@@ -7,3 +7,4 @@ pub mod Served
 pub mod Sets
 pub mod Sorted
 pub mod Specialized
+pub mod ClassMembers

@@ -10,3 +10,4 @@ pub mod ObserverMembers
 pub mod ObserverMethods
 pub mod Problems
 pub mod SpecializedParts
+pub mod ClassMembers

@@ -1,12 +1,14 @@
 //! The beans of a deployment.
-ghost use Rattle.std.specs.Prelude.{◌≡◌, [], ◌∷◌, map, Some, Contains, IfOk, OnOk};
+ghost use Rattle.std.specs.Prelude.{◌≡◌, [], ◌∷◌, map, Some, Contains, IfOk, OnOk, IfSome};
 ghost use Rattle.std.specs.List.{flat_map, AllZip};
 ghost use Rattle.cdi_deployment.specs.declared.deployment.Member.TheVariants as members;
 ghost use Rattle.cdi_beans.specs.Adds.{Adds};
 ghost use Rattle.cdi_beans.specs.Beans as spec;
+ghost use Rattle.cdi_beans.specs.ClassMembers.{HasMembers};
 ghost use Rattle.cdi_beans.specs.SpecializedParts.{HasOwn};
 
 use crate::bean::{Bean, BeanKind, BeanMember};
+use crate::class_members::{ClassMembers, members_of};
 use crate::specialized_parts::SpecializedParts;
 use crate::tables::Tables;
 use cdi_base::Seq;
@@ -42,21 +44,25 @@ fn managed<'a>(
     alloc: Global,
     tables: &Tables<'a>,
     parts: &mut SpecializedParts,
+    last: &mut Option<ClassMembers<'a>>,
     class: &'a Class,
     declared: &DeclaredBean,
 ) -> Result<Bean, AllocError>
     requires declared { class.now.bean ≡ Some declared.now }
     requires listed { Contains tables.now.deployment.now.classes class.now }
     requires own { HasOwn tables.now.deployment.now.classes tables.now.qualifiers.now parts.old }
+    requires last { IfSome last.old (HasMembers tables.now.deployment.now) }
     ensures bean { IfOk result (λ bean. spec.IsBeanOf tables.now.deployment.now
         tables.now.qualifiers.now (spec.Source.AClass class.now) bean) }
     ensures own { OnOk result
         (HasOwn tables.now.deployment.now.classes tables.now.qualifiers.now parts.new) }
+    ensures last { OnOk result (IfSome last.new (HasMembers tables.now.deployment.now)) }
 {
     let types = tables.types_of(alloc, class.name, &declared.typed)?;
     let qualifiers = tables.managed_qualifiers(alloc, parts, class)?;
-    let has = tables.members_of(alloc, class)?;
-    let members = bean_members(alloc, has.as_slice())?;
+    let has = members_of(alloc, tables, last.take(), class)?;
+    let members = bean_members(alloc, has.has.as_slice())?;
+    *last = Some(has);
     Ok(Bean {
         kind: BeanKind::Managed,
         class: class.name,
@@ -177,20 +183,23 @@ fn add_beans<'a>(
     alloc: Global,
     tables: &Tables<'a>,
     parts: &mut SpecializedParts,
+    last: &mut Option<ClassMembers<'a>>,
     class: &'a Class,
     beans: &mut Seq<Bean>,
 ) -> Result<(), AllocError>
     requires listed { Contains tables.now.deployment.now.classes class.now }
     requires own { HasOwn tables.now.deployment.now.classes tables.now.qualifiers.now parts.old }
+    requires last { IfSome last.old (HasMembers tables.now.deployment.now) }
     ensures adds { OnOk result
         (Adds (spec.IsBeanOf tables.now.deployment.now tables.now.qualifiers.now)
         (spec.sources_in class.now) beans.old beans.new) }
     ensures own { OnOk result
         (HasOwn tables.now.deployment.now.classes tables.now.qualifiers.now parts.new) }
+    ensures last { OnOk result (IfSome last.new (HasMembers tables.now.deployment.now)) }
 {
     match &class.bean {
         Some(declared) => {
-            beans.push(managed(alloc, tables, parts, class, declared)?)?;
+            beans.push(managed(alloc, tables, parts, last, class, declared)?)?;
             add_products(alloc, tables, class, declared, beans)
         }
         None => Ok(()),
@@ -204,9 +213,10 @@ pub(crate) fn beans_of(alloc: Global, tables: &Tables<'_>) -> Result<Seq<Bean>, 
         (flat_map spec.sources_in tables.now.deployment.now.classes) beans) }
 {
     let mut parts = SpecializedParts::new(alloc);
+    let mut last = None;
     let mut beans = Seq::empty(alloc);
     for class in tables.deployment.classes.as_slice() {
-        add_beans(alloc, tables, &mut parts, class, &mut beans)?;
+        add_beans(alloc, tables, &mut parts, &mut last, class, &mut beans)?;
     }
     Ok(beans)
 }

@@ -4,6 +4,7 @@
 pub mod bean;
 mod beans;
 mod build;
+mod class_members;
 pub mod declared;
 mod disposers;
 mod interceptors;

@@ -9,4 +9,5 @@ loop-class-preserved c =
       adds =
           adds_flat sources_in c.as_slice-class-items.result.now i.class-index c.class-item.result _ i.beans c.add_beans.new.beans c.loop-class-test.true c.class-item.is i.invariant.adds c.in_ok-add_beans.ensures.adds;
       own = c.in_ok-add_beans.ensures.own;
+      last = c.in_ok-add_beans.ensures.last;
     }
